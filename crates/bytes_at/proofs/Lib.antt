@@ -1,0 +1,3 @@
+pub mod ChoiceLaws
+pub mod FieldLaws
+pub mod WalkLaws

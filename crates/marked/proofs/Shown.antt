@@ -1,0 +1,41 @@
+-- The one statement: every marked example of the list holds. Sections that pass do so by the law of sealing, and the rest
+-- is computed.
+use mathlib.Core.Path.{_≡_, refl}
+use Rattle.checksum.specs.Register.{sealed, fourBytes}
+use Rattle.checksum.proofs.Sealing.{sealed-sound}
+use Rattle.bytes_at.specs.Choices.{ifLt, ifEq}
+use Rattle.kind.specs.Kinds.{kindOf}
+use Rattle.section.specs.Headers.{headerBy, ofKind, lengthTests, checksumTest, numberTests}
+use Rattle.marked.specs.Sections.{eit11, eit4093, tvct1021, mgt14, rrt18, ett15}
+use Rattle.marked.specs.Marked.{Mark, P1, P2, P3, P4, P5, P6, P7, Says, marked, All}
+
+p1 : Says P1
+unfolding headerBy ofKind lengthTests checksumTest numberTests ifLt ifEq kindOf sealed fourBytes
+p1 = (rw (sealed-sound (eit11 0 0)), refl)
+
+p2 : Says P2
+unfolding headerBy ofKind lengthTests checksumTest numberTests ifLt ifEq kindOf sealed fourBytes
+p2 = (rw (sealed-sound eit4093), refl)
+
+p3 : Says P3
+unfolding headerBy ofKind lengthTests checksumTest numberTests ifLt ifEq kindOf sealed fourBytes
+p3 = (rw (sealed-sound tvct1021), refl)
+
+p4 : Says P4
+unfolding headerBy ofKind lengthTests checksumTest numberTests ifLt ifEq kindOf sealed fourBytes
+p4 = (rw (sealed-sound mgt14), refl)
+
+p5 : Says P5
+unfolding headerBy ofKind lengthTests checksumTest numberTests ifLt ifEq kindOf sealed fourBytes
+p5 = (rw (sealed-sound rrt18), refl)
+
+p6 : Says P6
+unfolding headerBy ofKind lengthTests checksumTest numberTests ifLt ifEq kindOf sealed fourBytes
+p6 = (rw (sealed-sound ett15), refl)
+
+p7 : Says P7
+unfolding headerBy ofKind lengthTests checksumTest numberTests ifLt ifEq kindOf sealed fourBytes
+p7 = (rw (sealed-sound (eit11 3 3)), rw (sealed-sound (eit11 4 3)))
+
+pub shown : All marked
+shown = (p1, (p2, (p3, (p4, (p5, (p6, (p7, record {})))))))

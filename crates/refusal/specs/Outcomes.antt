@@ -1,0 +1,11 @@
+-- Every call ends in a result or in one numbered refusal: what a call answers, in the document's numbers and values.
+use Prim.Native.Nat.{ℕ}
+
+pub data Outcome (A : Type 0) : Type 0 where
+  refused : ℕ → Outcome A
+  result : A → Outcome A
+
+-- what comes after a call that was not refused; a refusal's number goes out as it is
+unfoldable pub after : {A B : Type 0} → Outcome A → (A → Outcome B) → Outcome B
+after (refused n) k = refused n
+after (result a) k = k a

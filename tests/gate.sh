@@ -1,0 +1,26 @@
+#!/usr/bin/env bash
+# Runs `rt ci`, then every comparison, and repeats `rt ci`'s own last line as the very last one.
+# A comparison that fails ends the run with `FAILED name` and exit 1.
+set -u -o pipefail
+cd "$(dirname "$0")/.."
+
+for tool in rt python3 cmp tee tail; do
+    command -v "$tool" > /dev/null || { echo "FAILED missing tool: $tool"; exit 1; }
+done
+
+said=$(mktemp)
+trap 'rm -f "$said"' EXIT
+rt ci 2>&1 | tee "$said"
+status=${PIPESTATUS[0]}
+[ "$status" -eq 0 ] || exit "$status"
+
+compare() { # NAME COMMAND..
+    local name=$1
+    shift
+    "$@" || { echo "FAILED $name"; exit 1; }
+    echo "same: $name"
+}
+
+compare section_vectors python3 tests/section_vectors.py --check
+
+tail -n 1 "$said"
