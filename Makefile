@@ -14,3 +14,4 @@ fmt:
 
 speed:
 	@bash bench/checksum.sh
+	@bash bench/judge.sh

@@ -4,7 +4,7 @@
 set -u -o pipefail
 cd "$(dirname "$0")/.."
 
-for tool in rt python3 cmp tee tail; do
+for tool in rt python3 gcc tee tail; do
     command -v "$tool" > /dev/null || { echo "FAILED missing tool: $tool"; exit 1; }
 done
 
@@ -22,5 +22,6 @@ compare() { # NAME COMMAND..
 }
 
 compare section_vectors python3 tests/section_vectors.py --check
+compare judge_on_a_small_stack bash bench/judge.sh
 
 tail -n 1 "$said"

@@ -1,31 +1,57 @@
 #!/usr/bin/env python3
 """Vectors for the tests of a section, with the answers that the rules give.
 
-Without a word: writes crates/section_vectors/stdin and stdout. With --check: fails where those
-files are not what this script makes. Each vector says which answer it is meant to have, and the
-rules, written out in sections.py, must agree.
+Without a word: writes crates/section_vectors/stdin and stdout, these vectors and those of
+body_vectors.py. With --check: fails where those files are not what this script makes. Each vector
+says which answer it is meant to have, and the rules, written out in sections.py and bodies.py,
+must agree.
 """
 import pathlib
 import sys
 
-from sections import EIT, ETT, KINDS, MGT, RRT, TVCT, header_outcome, section
+import body_vectors
+from bodies import section_outcome
+from body_vectors import BLANK, answer, eit, ett, event, joined, list_of, mgt, rrt, string, strings, tvct
+from sections import EIT, ETT, KINDS, MGT, RRT, TVCT, section
 
 vectors = []  # (asked, bytes)
 
 
 def add(meant, s, asked=0):
     """`meant`: the refusal's number, or 0 for a section that passes."""
-    said = header_outcome(s, asked)
-    assert said == meant or meant == 0 and isinstance(said, tuple), (meant, said, s[:16].hex())
-    vectors.append((asked, s))
+    said = section_outcome(s, asked)
+    assert said == meant or meant == 0 and said[0] == s[0], (meant, said, s[:16].hex())
+    vectors.append((asked, s, said))
 
 
-def body_for(length):
-    return bytes(length - 10)
+def filler(n):
+    return list_of(n) if n else b""
+
+
+def text_of(n):
+    """A text of n bytes: no strings, or one string with as many segments as it takes."""
+    if n == 1:
+        return b"\0"
+    whole, rest = divmod(n - 5, 258)
+    return strings(string(*[bytes(255)] * whole, bytes(rest - 3)))
+
+
+def body_for(table_id, length):
+    """A sound body for a section of this length, or nothing but zeros where there is none."""
+    rest = length - KINDS[table_id][1] if table_id in KINDS else -1
+    if rest < 0:
+        return bytes(length - 10)
+    return joined({
+        MGT: lambda: mgt([], filler(rest)),
+        TVCT: lambda: tvct([], filler(rest)),
+        RRT: lambda: rrt(b"", [BLANK], filler(rest)),
+        EIT: lambda: eit([event(b"", filler(rest - 12))] if rest else []),
+        ETT: lambda: ett(text_of(rest + 1)),
+    }[table_id]())
 
 
 def of_length(table_id, length, **words):
-    return section(table_id, body_for(length), **words)
+    return section(table_id, body_for(table_id, length), **words)
 
 
 def spoiled(s):
@@ -82,11 +108,11 @@ for table_id in (0x00, 0xC6, 0xC9, 0xCD, 0xFF):
 
 # ---- 3: each indicator alone, and both
 for flags in (0x7, 0xB, 0x3, 0x0):
-    add(3, of_length(EIT, 20, flags=flags))
+    add(3, of_length(EIT, 30, flags=flags))
 
 # ---- 5: a byte too few, one too many, many too many
-add(5, of_length(EIT, 20)[:-1])
-add(5, of_length(EIT, 20) + b"\0")
+add(5, of_length(EIT, 30)[:-1])
+add(5, of_length(EIT, 30) + b"\0")
 add(5, of_length(TVCT, 1021)[:500])
 add(5, b"\xcb\xf0\x0b\x00")
 
@@ -107,27 +133,23 @@ add(1, b"\x00\x00")
 add(2, of_length(0xC9, 20, flags=0x3))
 add(3, of_length(EIT, 10, flags=0x7))
 add(4, of_length(EIT, 10) + b"\0")
-add(5, spoiled(of_length(EIT, 20)) + b"\0")
-add(6, spoiled(of_length(EIT, 20, protocol=1)))
-add(7, of_length(EIT, 20, protocol=1, number=4, last=3))
+add(5, spoiled(of_length(EIT, 30)) + b"\0")
+add(6, spoiled(of_length(EIT, 30, protocol=1)))
+add(7, of_length(EIT, 30, protocol=1, number=4, last=3))
 
 # ---- a call for one kind has the same order
 add(1, b"", EIT)
 add(2, of_length(ETT, 15, flags=0x3), EIT)
 add(3, of_length(EIT, 10, flags=0x7), EIT)
 add(4, of_length(EIT, 10) + b"\0", EIT)
-add(5, spoiled(of_length(EIT, 20)) + b"\0", EIT)
-add(6, spoiled(of_length(EIT, 20, protocol=1)), EIT)
-add(7, of_length(EIT, 20, protocol=1, number=4, last=3), EIT)
-add(8, of_length(EIT, 20, number=4, last=3), EIT)
+add(5, spoiled(of_length(EIT, 30)) + b"\0", EIT)
+add(6, spoiled(of_length(EIT, 30, protocol=1)), EIT)
+add(7, of_length(EIT, 30, protocol=1, number=4, last=3), EIT)
+add(8, of_length(EIT, 30, number=4, last=3), EIT)
 
-lines = []
-records = b""
-for n, (asked, s) in enumerate(vectors):
-    said = header_outcome(s, asked)
-    records += bytes([asked]) + len(s).to_bytes(2, "big") + s
-    lines.append("%d refused %d" % (n, said) if isinstance(said, int)
-                 else "%d passes %s" % (n, " ".join(map(str, said))))
+vectors += [vector[1:] for vector in body_vectors.vectors]
+records = b"".join(bytes([asked]) + len(s).to_bytes(2, "big") + s for asked, s, _ in vectors)
+lines = ["%d %s%s" % (n, *answer(said)) for n, (_, _, said) in enumerate(vectors)]
 lines.append("%d vectors" % len(vectors))
 made = {"stdin": records, "stdout": ("\n".join(lines) + "\n").encode()}
 

@@ -75,6 +75,13 @@ pub fn skip(back: usize, at: usize, n: usize, end: usize) -> Walk
     }
 }
 
+// A count that may not be 0 and stands `back` bytes before: it is itself to blame.
+pub fn zero_count(back: usize, at: usize) -> Walk
+    ensures { λ r. ⌜ r ≡ Walk.Bad (at - back) ⌝ }
+{
+    Walk::Bad(earlier(at, back))
+}
+
 fn wide(x: u8) -> usize
     ensures { λ r. ⌜ (r ≡ x) × (r < 256) ⌝ }
 {

@@ -5,37 +5,47 @@ use Rattle.checksum.specs.Register.{sealed, fourBytes}
 use Rattle.checksum.proofs.Sealing.{sealed-sound}
 use Rattle.bytes_at.specs.Choices.{ifLt, ifEq}
 use Rattle.kind.specs.Kinds.{kindOf}
+use Rattle.bytes_at.specs.Walks.{skipTo, bitsTo, fieldsTo, then, many, ends}
+use Rattle.format.specs.Lawful.{unto}
+use Rattle.strings.specs.Strings.{segment, string, structure, text, sizedText}
+use Rattle.descriptor.specs.Descriptors.{content, descriptor, descriptors, sizedDescriptors}
+use Rattle.body.specs.Bodies.{event, table, channel, value, dimension, entryOf, counted, tables, dimensions, mgt, tvct, rrt, eit, ett, bodyOf}
 use Rattle.section.specs.Headers.{headerBy, ofKind, lengthTests, checksumTest, numberTests}
-use Rattle.marked.specs.Sections.{eit11, eit4093, tvct1021, mgt14, rrt18, ett15}
-use Rattle.marked.specs.Marked.{Mark, P1, P2, P3, P4, P5, P6, P7, Says, marked, All}
+use Rattle.section.specs.Sections.{sectionBy, verdictBy, withBody, bodyTest}
+use Rattle.marked.specs.Sections.{eit11, eit4093, tvct1021, mgt14, rrt18, ett15, teaSection}
+use Rattle.marked.specs.Marked.{Mark, P1, P2, P3, P4, P5, P6, P7, P9, Says, marked, All}
 
 p1 : Says P1
-unfolding headerBy ofKind lengthTests checksumTest numberTests ifLt ifEq kindOf sealed fourBytes
+unfolding headerBy ofKind lengthTests checksumTest numberTests ifLt ifEq kindOf sealed fourBytes sectionBy verdictBy withBody bodyTest bodyOf entryOf counted then many ends skipTo bitsTo fieldsTo unto segment string structure text sizedText content descriptor descriptors sizedDescriptors eit event
 p1 = (rw (sealed-sound (eit11 0 0)), refl)
 
 p2 : Says P2
-unfolding headerBy ofKind lengthTests checksumTest numberTests ifLt ifEq kindOf sealed fourBytes
+unfolding headerBy ofKind lengthTests checksumTest numberTests ifLt ifEq kindOf sealed fourBytes sectionBy verdictBy withBody bodyTest bodyOf entryOf counted then many ends skipTo bitsTo fieldsTo unto segment string structure text sizedText content descriptor descriptors sizedDescriptors eit event
 p2 = (rw (sealed-sound eit4093), refl)
 
 p3 : Says P3
-unfolding headerBy ofKind lengthTests checksumTest numberTests ifLt ifEq kindOf sealed fourBytes
+unfolding headerBy ofKind lengthTests checksumTest numberTests ifLt ifEq kindOf sealed fourBytes sectionBy verdictBy withBody bodyTest bodyOf entryOf counted then many ends skipTo bitsTo fieldsTo unto segment string structure text sizedText content descriptor descriptors sizedDescriptors tvct channel
 p3 = (rw (sealed-sound tvct1021), refl)
 
 p4 : Says P4
-unfolding headerBy ofKind lengthTests checksumTest numberTests ifLt ifEq kindOf sealed fourBytes
+unfolding headerBy ofKind lengthTests checksumTest numberTests ifLt ifEq kindOf sealed fourBytes sectionBy verdictBy withBody bodyTest bodyOf entryOf counted then many ends skipTo bitsTo fieldsTo unto segment string structure text sizedText content descriptor descriptors sizedDescriptors mgt tables table
 p4 = (rw (sealed-sound mgt14), refl)
 
 p5 : Says P5
-unfolding headerBy ofKind lengthTests checksumTest numberTests ifLt ifEq kindOf sealed fourBytes
+unfolding headerBy ofKind lengthTests checksumTest numberTests ifLt ifEq kindOf sealed fourBytes sectionBy verdictBy withBody bodyTest bodyOf entryOf counted then many ends skipTo bitsTo fieldsTo unto segment string structure text sizedText content descriptor descriptors sizedDescriptors rrt dimensions dimension value
 p5 = (rw (sealed-sound rrt18), refl)
 
 p6 : Says P6
-unfolding headerBy ofKind lengthTests checksumTest numberTests ifLt ifEq kindOf sealed fourBytes
+unfolding headerBy ofKind lengthTests checksumTest numberTests ifLt ifEq kindOf sealed fourBytes sectionBy verdictBy withBody bodyTest bodyOf entryOf counted then many ends skipTo bitsTo fieldsTo unto segment string structure text sizedText content descriptor descriptors sizedDescriptors ett
 p6 = (rw (sealed-sound ett15), refl)
 
 p7 : Says P7
-unfolding headerBy ofKind lengthTests checksumTest numberTests ifLt ifEq kindOf sealed fourBytes
+unfolding headerBy ofKind lengthTests checksumTest numberTests ifLt ifEq kindOf sealed fourBytes sectionBy verdictBy withBody bodyTest bodyOf entryOf counted then many ends skipTo bitsTo fieldsTo unto segment string structure text sizedText content descriptor descriptors sizedDescriptors eit event
 p7 = (rw (sealed-sound (eit11 3 3)), rw (sealed-sound (eit11 4 3)))
 
+p9 : Says P9
+unfolding headerBy ofKind lengthTests checksumTest numberTests ifLt ifEq kindOf sealed fourBytes sectionBy verdictBy withBody bodyTest bodyOf entryOf counted then many ends skipTo bitsTo fieldsTo unto segment string structure text sizedText content descriptor descriptors sizedDescriptors eit event
+p9 = (refl, (refl, (refl, rw (sealed-sound teaSection))))
+
 pub shown : All marked
-shown = (p1, (p2, (p3, (p4, (p5, (p6, (p7, record {})))))))
+shown = (p1, (p2, (p3, (p4, (p5, (p6, (p7, (p9, record {}))))))))

@@ -2,22 +2,23 @@
 use Prim.Native.Nat.{ℕ}
 use mathlib.Core.Path.{_≡_}
 use mathlib.Core.List.{List, [], _∷_}
+use lib.ListN.{length}
 use Rattle.checksum.specs.Register.{sealed}
 use Rattle.refusal.specs.Outcomes.{Outcome, refused, result}
 use Rattle.kind.specs.declared.Kind.{Kind}
 use Rattle.kind.specs.declared.Kind.the-variants.{Mgt, Tvct, Rrt, Eit, Ett}
 use Rattle.kind.specs.Kinds.{kindOf}
-use Rattle.section.specs.Headers.{headerBy}
-use Rattle.marked.specs.Sections.{eit11, eit10, eit4093, eit4094, tvct1021, tvct1022, mgt14, mgt13, rrt18, rrt17, ett15, ett14}
+use Rattle.section.specs.Sections.{sectionBy}
+use Rattle.marked.specs.Sections.{eit11, eit10, eit4093, eit4094, tvct1021, tvct1022, mgt14, mgt13, rrt18, rrt17, ett15, ett14, teaText, teaEvent, teaSection}
 
--- a section, sealed, passes the header's tests, and its fields are these
+-- a section, sealed, is sound, and its header's fields are these
 abbrev pub Passes : Kind → ℕ → ℕ → List ℕ → Type 0
 Passes k number last s =
-    headerBy kindOf (sealed s) ≡ result (record { kind = k; extension = 1; version = 3; current = 1; number = number; last = last })
+    sectionBy kindOf (sealed s) ≡ result (record { kind = k; extension = 7; version = 3; current = 1; number = number; last = last })
 
 -- a section, sealed, is refused by this number
 abbrev pub RefusedBy : ℕ → List ℕ → Type 0
-RefusedBy n s = headerBy kindOf (sealed s) ≡ refused n
+RefusedBy n s = sectionBy kindOf (sealed s) ≡ refused n
 
 pub data Mark : Type 0 where
   P1 : Mark
@@ -27,6 +28,7 @@ pub data Mark : Type 0 where
   P5 : Mark
   P6 : Mark
   P7 : Mark
+  P9 : Mark
 
 -- what each example says
 abbrev pub Says : Mark → Type 0
@@ -37,10 +39,11 @@ Says P4 = Passes Mgt 0 0 mgt14 × RefusedBy 4 mgt13
 Says P5 = Passes Rrt 0 0 rrt18 × RefusedBy 4 rrt17
 Says P6 = Passes Ett 0 0 ett15 × RefusedBy 4 ett14
 Says P7 = Passes Eit 3 3 (eit11 3 3) × RefusedBy 8 (eit11 4 3)
+Says P9 = (length teaText ≡ 11) × ((length teaEvent ≡ 23) × ((length (sealed teaSection) ≡ 37) × Passes Eit 0 0 teaSection))
 
 -- the list
 abbrev pub marked : List Mark
-marked = P1 ∷ P2 ∷ P3 ∷ P4 ∷ P5 ∷ P6 ∷ P7 ∷ []
+marked = P1 ∷ P2 ∷ P3 ∷ P4 ∷ P5 ∷ P6 ∷ P7 ∷ P9 ∷ []
 
 -- each of a list holds
 abbrev pub All : List Mark → Type 0

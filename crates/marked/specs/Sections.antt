@@ -3,10 +3,10 @@ use Prim.Native.Nat.{ℕ, zero, suc, _+_}
 use mathlib.Core.List.{List, [], _∷_, _++_}
 use lib.ListN.{replicate}
 
--- table_id, section_length in its two parts, section_number, last_section_number, body; the extension is 1, the version 3,
+-- table_id, section_length in its two parts, section_number, last_section_number, body; the extension is 7, the version 3,
 -- and the section is current
 abbrev pub unsealed : ℕ → ℕ → ℕ → ℕ → ℕ → List ℕ → List ℕ
-unsealed id high low number last body = id ∷ (0xF0 + high) ∷ low ∷ 0 ∷ 1 ∷ 0xC7 ∷ number ∷ last ∷ 0 ∷ body
+unsealed id high low number last body = id ∷ (0xF0 + high) ∷ low ∷ 0 ∷ 7 ∷ 0xC7 ∷ number ∷ last ∷ 0 ∷ body
 
 -- a descriptor with n bytes that no rule looks into
 abbrev pub opaque : ℕ → List ℕ
@@ -60,3 +60,13 @@ ett15 = unsealed 0xCC 0 15 0 0 (0 ∷ 0 ∷ 0 ∷ 1 ∷ 0 ∷ [])
 
 abbrev pub ett14 : List ℕ
 ett14 = unsealed 0xCC 0 14 0 0 (0 ∷ 0 ∷ 0 ∷ 1 ∷ [])
+
+-- "Tea" in English, in one plain segment; an event with that title; an EIT with that event
+abbrev pub teaText : List ℕ
+teaText = 1 ∷ 101 ∷ 110 ∷ 103 ∷ 1 ∷ 0 ∷ 0 ∷ 3 ∷ 84 ∷ 101 ∷ 97 ∷ []
+
+abbrev pub teaEvent : List ℕ
+teaEvent = 0xC0 ∷ 5 ∷ 0 ∷ 0 ∷ 3 ∷ 232 ∷ 0xC0 ∷ 7 ∷ 8 ∷ 11 ∷ teaText ++ 0xF0 ∷ 0 ∷ []
+
+abbrev pub teaSection : List ℕ
+teaSection = unsealed 0xCB 0 34 0 0 (1 ∷ teaEvent)

@@ -1,7 +1,9 @@
-// Judging a section: the header's tests 1 to 8, in the document's order.
+// Judging a section: the header's tests 1 to 8, then the body, test 9, in the document's order.
 mod header;
+pub mod inner;
+mod judge;
 
 pub use header::Head;
 pub use header::Header;
-pub use header::header_of_any;
-pub use header::header_of_kind;
+pub use judge::judge_any;
+pub use judge::judge_kind;

@@ -2,8 +2,8 @@
 // 16 bits and as many bytes; each is answered by a line.
 use kind::Found;
 use kind::Kind;
-use section::Head;
 use section::Header;
+use section::inner::Judged;
 ghost use Prim.Native.Nat.{_<_};
 
 fn wide(x: u8) -> usize
@@ -34,23 +34,27 @@ fn show_header(h: Header) {
     print_number(h.last);
 }
 
-fn show(h: Head) {
-    match h {
-        Head::Refused(k) => {
+fn show(judged: Judged) {
+    match judged {
+        Judged::Refused(k) => {
             io::write_all(1, b" refused ");
             io::print_decimal(1, k.number() as u64);
         }
-        Head::Passes(f) => show_header(f),
+        Judged::Broken(x) => {
+            io::write_all(1, b" refused 9 at");
+            print_number(x);
+        }
+        Judged::Sound(h) => show_header(h),
     }
 }
 
 fn answer(asked: usize, s: &[u8]) {
     if asked == 0 {
-        show(section::header_of_any(s));
+        show(section::inner::inspect_any(s));
         return;
     }
     match Kind::of(asked) {
-        Found::Is(k) => show(section::header_of_kind(s, k)),
+        Found::Is(k) => show(section::inner::inspect_kind(s, k)),
         Found::Nothing => {
             io::write_all(1, b" no such kind");
         }

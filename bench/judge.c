@@ -1,0 +1,191 @@
+// Judging whole sections: time per call against the checksum alone, and the stack that a call takes,
+// which is measured on a stack of 16 KiB and may not be above 6 KiB.
+#define _GNU_SOURCE
+#include <stdint.h>
+#include <stdio.h>
+#include <stdlib.h>
+#include <string.h>
+#include <time.h>
+#include <ucontext.h>
+
+uint32_t measured_register(const uint8_t *s, size_t n);
+uint8_t measured_judge(const uint8_t *s, size_t n);
+
+enum { ROUNDS = 9, CALLS = 400, STACK = 16 << 10, PAINT = 0xAA, LONGEST = 4096 };
+
+typedef struct {
+    const char *name;
+    uint8_t bytes[LONGEST];
+    size_t n;
+} Section;
+
+static uint32_t plain_register(const uint8_t *s, size_t n) {
+    uint32_t r = 0xffffffffu;
+    for (size_t i = 0; i < n; i++)
+        for (int k = 7; k >= 0; k--)
+            r = (r << 1) ^ ((r >> 31) != (s[i] >> k & 1u) ? 0x04c11db7u : 0);
+    return r;
+}
+
+static void put(Section *s, unsigned byte) { s->bytes[s->n++] = byte; }
+
+static void begin(Section *s, const char *name, unsigned table_id) {
+    static const uint8_t head[] = {0xF0, 0, 0, 7, 0xC7, 0, 0, 0};
+    s->name = name;
+    s->n = 0;
+    put(s, table_id);
+    for (size_t i = 0; i < sizeof head; i++)
+        put(s, head[i]);
+}
+
+static void seal(Section *s) {
+    size_t length = s->n + 4 - 3;
+    s->bytes[1] = 0xF0 | length >> 8;
+    s->bytes[2] = length;
+    uint32_t r = plain_register(s->bytes, s->n);
+    for (int k = 24; k >= 0; k -= 8)
+        put(s, r >> k);
+}
+
+// An event with a title of `letters` bytes in one plain segment (none: no title) and n bytes of
+// descriptors to come.
+static void event(Section *s, unsigned letters, unsigned n) {
+    static const uint8_t fields[] = {0xC0, 5, 0, 0, 3, 232, 0xC0, 7, 8};
+    for (size_t i = 0; i < sizeof fields; i++)
+        put(s, fields[i]);
+    put(s, letters ? letters + 8 : 0);
+    if (letters) {
+        static const uint8_t head[] = {1, 'e', 'n', 'g', 1, 0, 0};
+        for (size_t i = 0; i < sizeof head; i++)
+            put(s, head[i]);
+        put(s, letters);
+        for (unsigned i = 0; i < letters; i++)
+            put(s, 'a' + i % 26);
+    }
+    put(s, 0xF0 | n >> 8);
+    put(s, n);
+}
+
+static void empty_descriptors(Section *s, unsigned n) {
+    for (unsigned i = 0; i < n; i++) {
+        put(s, 0x80);
+        put(s, 0);
+    }
+    seal(s);
+}
+
+// As many as an event can hold.
+static void full_event(Section *s) {
+    begin(s, "EIT, one event, 2035 descriptors", 0xCB);
+    put(s, 1);
+    event(s, 0, 2 * 2035);
+    empty_descriptors(s, 2035);
+}
+
+// As many as any section can hold.
+static void full_mgt(Section *s) {
+    begin(s, "MGT, no table, 2039 descriptors", 0xC7);
+    put(s, 0);
+    put(s, 0);
+    put(s, 0xF0 | 2 * 2039 >> 8);
+    put(s, 2 * 2039 & 0xFF);
+    empty_descriptors(s, 2039);
+}
+
+static void smallest_events(Section *s) {
+    begin(s, "EIT, 255 events without title", 0xCB);
+    put(s, 255);
+    for (int i = 0; i < 255; i++)
+        event(s, 0, 0);
+    seal(s);
+}
+
+static void titled_events(Section *s) {
+    static const uint8_t advisory[] = {0x87, 6, 0xC1, 1, 1, 0, 0xF3, 0};
+    enum { EVENTS = 75 };
+    begin(s, "EIT, 75 events, title and advisory", 0xCB);
+    put(s, EVENTS);
+    for (int i = 0; i < EVENTS; i++) {
+        event(s, 26, sizeof advisory);
+        for (size_t k = 0; k < sizeof advisory; k++)
+            put(s, advisory[k]);
+    }
+    seal(s);
+}
+
+static double seconds(void) {
+    struct timespec t;
+    clock_gettime(CLOCK_MONOTONIC, &t);
+    return t.tv_sec + t.tv_nsec * 1e-9;
+}
+
+static void accepted(const Section *s) {
+    unsigned k = measured_judge(s->bytes, s->n);
+    if (k) {
+        printf("FAILED judge: %s refused %u\n", s->name, k);
+        exit(1);
+    }
+}
+
+static void time_one(const Section *s, long taken) {
+    double sum = 1e18, judge = 1e18;
+    volatile uint32_t sink = 0;
+    for (int k = 0; k < ROUNDS; k++) {
+        double began = seconds();
+        for (int i = 0; i < CALLS; i++)
+            sink += measured_register(s->bytes, s->n);
+        double t = (seconds() - began) * 1e9 / CALLS;
+        if (t < sum)
+            sum = t;
+        began = seconds();
+        for (int i = 0; i < CALLS; i++)
+            sink += measured_judge(s->bytes, s->n);
+        t = (seconds() - began) * 1e9 / CALLS;
+        if (t < judge)
+            judge = t;
+    }
+    printf("%-36s %6zu %12.0f %10.0f %8.2f %8ld\n", s->name, s->n, sum, judge, judge / sum, taken);
+}
+
+static uint8_t stack[STACK];
+static ucontext_t back, there;
+static const Section *volatile judged;
+
+static void on_the_stack(void) {
+    if (judged)
+        accepted(judged);
+}
+
+static long overwritten(const Section *s) {
+    judged = s;
+    memset(stack, PAINT, sizeof stack);
+    getcontext(&there);
+    there.uc_stack.ss_sp = stack;
+    there.uc_stack.ss_size = sizeof stack;
+    there.uc_link = &back;
+    makecontext(&there, on_the_stack, 0);
+    swapcontext(&back, &there);
+    size_t i = 0;
+    while (i < sizeof stack && stack[i] == PAINT)
+        i++;
+    return sizeof stack - i;
+}
+
+int main(void) {
+    static Section sections[4];
+    full_event(&sections[0]);
+    full_mgt(&sections[1]);
+    smallest_events(&sections[2]);
+    titled_events(&sections[3]);
+    printf("%-36s %6s %12s %10s %8s %8s\n", "section", "bytes", "checksum ns", "judge ns", "ratio", "stack");
+    long none = overwritten(NULL);
+    for (int k = 0; k < 4; k++) {
+        long taken = overwritten(&sections[k]) - none;
+        time_one(&sections[k], taken);
+        if (taken > 6 << 10) {
+            printf("FAILED judge: a stack of %ld bytes\n", taken);
+            return 1;
+        }
+    }
+    return 0;
+}

@@ -1,0 +1,96 @@
+-- Laws of every format, and so of every table: what is accepted, of which value the bytes are, where an entry stands, and how
+-- what has a head and what is put together walk.
+use Prim.Native.Nat.{ℕ, _+_, _-_, _*_, _≤_, _<_}
+use mathlib.Core.Path.{_≡_, refl, sym, ap, _∙_}
+use mathlib.Core.Logic.{_↔_}
+use mathlib.Core.List.{List, [], _∷_, _++_}
+use native.Mathlib.Omega.{arith}
+use lib.ListN.{length, take, drop, length-append}
+use Rattle.bytes_at.specs.declared.Walk.{Walk}
+use Rattle.bytes_at.specs.declared.Walk.the-variants.{To, Bad}
+use Rattle.bytes_at.specs.Walks.{then, many}
+use Rattle.bytes_at.proofs.WalkLaws.{then-to, then-inv}
+use Rattle.format.specs.Lawful.{Lies, part, Bytes, total, All, encs}
+use Rattle.format.specs.Laws.OfBytes.{lies-at, lies-split, part-length}
+use Rattle.format.specs.Formats.{One, Format, Filling, Reader, Full, head, walks}
+use Rattle.format.proofs.FieldLaws.{fields-end}
+
+-- ---- a container that lies within a section's bytes
+module _ (s : List ℕ) (end at : ℕ) (h : at ≤ end) (m : end ≤ length s) (z : Bytes s) where
+  -- a walk comes to e exactly when the bytes up to e are those of a well-formed value
+  pub accepted : {C : Type 0} (f : Format C) (c : C) (e : ℕ)
+      → (f .walk c s end at ≡ To e) ↔ ((x : f .Val) × (f .Ok c x × (((at ≤ e) × (e ≤ end)) × (part s at e ≡ f .enc x))))
+  accepted f c e = (
+    (λ w.
+        let u = (f .law c) .complete s end at e h m z w in
+        let n : e - at ≡ length (f .enc (u .0)) = omega arith in
+        (u .0, (u .1 .0, ((f .law c) .within s end at e h w, ap (λ k. take k (drop at s)) n ∙ u .1 .1 .0)))),
+    (λ u.
+        let n : length (f .enc (u .0)) ≡ e - at = sym (ap length (u .1 .1 .1)) ∙ part-length s (e - at) at (omega arith) in
+        let l = ap (λ k. take k (drop at s)) n ∙ u .1 .1 .1 in
+        (f .law c) .sound s end at (u .0) (u .1 .0) l (omega arith) ∙ ap To (omega arith)),
+  )
+
+  -- a filling's walk comes to the container's end exactly when all its bytes are those of a well-formed value
+  pub accepted-all : {C : Type 0} (f : Filling C) (c : C)
+      → (f .walk c s end at ≡ To end) ↔ ((x : f .Val) × (f .Ok c x × (part s at end ≡ f .enc x)))
+  accepted-all f c = (
+    (λ w.
+        let u = (f .law c) .complete s end at h m z w in
+        let n : end - at ≡ length (f .enc (u .0)) = omega arith in
+        (u .0, (u .1 .0, ap (λ k. take k (drop at s)) n ∙ u .1 .1 .0))),
+    (λ u.
+        let n : length (f .enc (u .0)) ≡ end - at = sym (ap length (u .1 .1)) ∙ part-length s (end - at) at (omega arith) in
+        let l = ap (λ k. take k (drop at s)) n ∙ u .1 .1 in
+        (f .law c) .sound s end at (u .0) (u .1 .0) l (omega arith)),
+  )
+
+-- ---- bytes are those of one value only
+pub once : {C : Type 0} (f : Format C) (c : C) {l : List ℕ} (x y : f .Val) → f .Ok c x → f .Ok c y
+    → l ≡ f .enc x → l ≡ f .enc y → x ≡ y
+once f c x y o r e g = (f .law c) .unique x y [] [] o r (ap (λ l. l ++ []) (sym e ∙ g))
+
+pub once-all : {C : Type 0} (f : Filling C) (c : C) {l : List ℕ} (x y : f .Val) → f .Ok c x → f .Ok c y
+    → l ≡ f .enc x → l ≡ f .enc y → x ≡ y
+once-all f c x y o r e g = (f .law c) .unique x y o r (sym e ∙ g)
+
+-- ---- entries
+-- in entries that stand one after the other: where the entry after ys stands, and that the walk of as many steps comes there
+module _ (f : Format One) (s : List ℕ) (end : ℕ) where
+  pub nth : (at : ℕ) (ys : List (f .Val)) (x : f .Val) (zs : List (f .Val)) → All (f .Ok (record {})) (ys ++ (x ∷ zs))
+      → Lies (encs (f .enc) (ys ++ (x ∷ zs))) s at → at + length (encs (f .enc) (ys ++ (x ∷ zs))) ≤ end
+      → (many (walks f s end) (length ys) at ≡ To (at + length (encs (f .enc) ys)))
+      × Lies (f .enc x) s (at + length (encs (f .enc) ys))
+  unfolding many
+  nth at [] x zs g l h =
+      (ap To (omega arith), lies-at (f .enc x) s at (at + 0) (omega arith) (lies-split (f .enc x) (encs (f .enc) zs) s at l .0))
+  nth at (y ∷ ys) x zs g l h =
+      let j = length-append (f .enc y) (encs (f .enc) (ys ++ (x ∷ zs))) in
+      let k : at + length (f .enc y) + length (encs (f .enc) ys) ≡ at + length (f .enc y ++ encs (f .enc) ys) =
+      omega (arith, length-append (f .enc y) (encs (f .enc) ys)) in
+      let i = lies-split (f .enc y) (encs (f .enc) (ys ++ (x ∷ zs))) s at l in
+      let u = (f .law (record {})) .sound s end at y (g .0) (i .0) (omega arith) in
+      let v = nth (at + length (f .enc y)) ys x zs (g .1) (i .1) (omega arith) in
+      (then-to _ _ (at + length (f .enc y)) _ u (v .0 ∙ ap To k), lies-at (f .enc x) s _ _ k (v .1))
+
+-- ---- heads
+-- what has a head is not empty
+pub head-full : {C : Type 0} (ns : List ℕ) (k : ℕ) (whole : total ns ≡ 8 * k) (r : Reader k C) (f : Format C) → 0 < k
+    → Full (head ns k whole r f)
+head-full ns k whole r f h x o = omega (arith, length-append (x .0) (f .enc (x .1)))
+
+-- what has a head goes forward, and stays within its container
+pub head-forward : {C : Type 0} (n : ℕ) (ns : List ℕ) (k : ℕ) (whole : total (n ∷ ns) ≡ 8 * k) (r : Reader k C) (f : Format C)
+    (s : List ℕ) (end at e : ℕ) → walks (head (n ∷ ns) k whole r f) s end at ≡ To e → (at + k ≤ e) × (e ≤ end)
+head-forward n ns k whole r f s end at e w =
+    let p = then-inv _ _ e w in
+    let t = fields-end n ns k whole at end (p .0) (p .1 .0) in
+    let i = (f .law (r .read s (p .0))) .within s end (p .0) e (t .1) (p .1 .1) in
+    (omega arith, i .1)
+
+-- ---- sequences
+-- what is put together on the left walks as what is put together on the right
+pub then-assoc : (w : Walk) (k l : ℕ → Walk) → then (then w k) l ≡ then w (λ a. then (k a) l)
+unfolding then
+then-assoc (To a) k l = refl
+then-assoc (Bad a) k l = refl

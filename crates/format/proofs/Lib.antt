@@ -1,0 +1,3 @@
+pub mod FieldLaws
+pub mod RepeatLaws
+pub mod FormatLaws

@@ -1,0 +1,4 @@
+pub mod OfBytes
+pub mod OfHeads
+pub mod OfContainers
+pub mod OfRepeats
