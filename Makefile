@@ -15,3 +15,4 @@ fmt:
 speed:
 	@bash bench/checksum.sh
 	@bash bench/judge.sh
+	@bash bench/titles.sh

@@ -22,6 +22,9 @@ compare() { # NAME COMMAND..
 }
 
 compare section_vectors python3 tests/section_vectors.py --check
+compare segment_vectors python3 tests/segment_vectors.py --check
+compare annex_c_data python3 tools/check_annex_c.py
+compare annex_c_crate python3 tools/annex_c.py --check
 compare judge_on_a_small_stack bash bench/judge.sh
 
 tail -n 1 "$said"

@@ -1,0 +1,118 @@
+// Ten thousand compressed titles, by the library and by a straightforward decoder in C; and the stack
+// that the library takes for them. Both sides must decode all of them.
+#define _GNU_SOURCE
+#include <stdint.h>
+#include <stdio.h>
+#include <stdlib.h>
+#include <string.h>
+#include <time.h>
+#include <ucontext.h>
+
+#include "table.h"
+
+size_t measured_titles(const uint8_t *s, size_t n, uint16_t *out, size_t room);
+
+enum { ROUNDS = 9, TITLES = 10000, ROOM = 2040, STACK = 64 << 10, PAINT = 0xAA };
+
+static uint8_t bytes[1 << 20];
+static size_t size;
+
+static int bit(const uint8_t *s, size_t i) { return s[i / 8] >> (7 - i % 8) & 1; }
+
+// Not inlined, since the library's is not.
+__attribute__((noinline)) static int decode(const uint8_t *s, size_t n, uint16_t *out) {
+    size_t at = 0, total = 8 * n, units = 0;
+    unsigned prior = 0;
+    for (;;) {
+        const unsigned char *tree = table + 256 * table[2 * prior] + table[2 * prior + 1];
+        unsigned node = 0;
+        do {
+            if (at == total)
+                return -1;
+            node = tree[2 * node + bit(s, at++)];
+        } while (node < 128);
+        unsigned symbol = node - 128;
+        if (symbol == 0)
+            return total - at < 8 ? (int)units : -1;
+        if (symbol == 27) {
+            if (total - at < 8)
+                return -1;
+            symbol = 0;
+            for (int k = 0; k < 8; k++)
+                symbol = symbol << 1 | bit(s, at++);
+            if (symbol > 127)
+                return -1;
+        }
+        out[units++] = symbol;
+        prior = symbol;
+    }
+}
+
+static size_t c_titles(const uint8_t *s, size_t n, uint16_t *out, size_t room) {
+    size_t texts = 0;
+    (void)room;
+    for (size_t at = 0; at < n; at += 1 + s[at])
+        texts += decode(s + at + 1, s[at], out) >= 0;
+    return texts;
+}
+
+static double seconds(void) {
+    struct timespec t;
+    clock_gettime(CLOCK_MONOTONIC, &t);
+    return t.tv_sec + t.tv_nsec * 1e-9;
+}
+
+static uint16_t room[ROOM];
+
+static double timed(size_t (*f)(const uint8_t *, size_t, uint16_t *, size_t)) {
+    double best = 1e18;
+    for (int k = 0; k < ROUNDS; k++) {
+        double began = seconds();
+        size_t texts = f(bytes, size, room, ROOM);
+        double t = seconds() - began;
+        if (texts != TITLES) {
+            printf("FAILED titles: %zu decoded\n", texts);
+            exit(1);
+        }
+        if (t < best)
+            best = t;
+    }
+    return best;
+}
+
+static uint8_t stack[STACK];
+static ucontext_t back, there;
+static volatile int calls_it;
+
+static void on_the_stack(void) {
+    if (calls_it)
+        measured_titles(bytes, size, room, ROOM);
+}
+
+static long overwritten(int calls) {
+    calls_it = calls;
+    memset(stack, PAINT, sizeof stack);
+    getcontext(&there);
+    there.uc_stack.ss_sp = stack;
+    there.uc_stack.ss_size = sizeof stack;
+    there.uc_link = &back;
+    makecontext(&there, on_the_stack, 0);
+    swapcontext(&back, &there);
+    size_t i = 0;
+    while (i < sizeof stack && stack[i] == PAINT)
+        i++;
+    return sizeof stack - i;
+}
+
+int main(int argc, char **argv) {
+    FILE *f = argc == 2 ? fopen(argv[1], "rb") : NULL;
+    if (!f)
+        return 1;
+    size = fread(bytes, 1, sizeof bytes, f);
+    fclose(f);
+    double c = timed(c_titles), ours = timed(measured_titles);
+    printf("%d titles, %zu bytes: C %.0f us, ours %.0f us, ours / C %.2f\n", TITLES, size, c * 1e6, ours * 1e6, ours / c);
+    long none = overwritten(0);
+    printf("stack: %ld bytes\n", overwritten(1) - none);
+    return 0;
+}

@@ -1,0 +1,3 @@
+-- The laws and theorems of the crate.
+pub mod TestLaws
+pub mod Tested

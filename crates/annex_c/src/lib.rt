@@ -1,0 +1,22 @@
+// The decode tables of annex C. A table is handed out whole, to be named once a text and lent from there on: a constant that a
+// leaf names is stored anew at every call.
+mod type1;
+mod type2;
+
+ghost use mathlib.Core.Path.{_≡_};
+ghost use Rattle.annex_c.specs.Table1.{table1};
+ghost use Rattle.annex_c.specs.Table2.{table2};
+
+// Type 1: titles.
+pub fn titles() -> [u8; 1940]
+    ensures { λ r. ⌜ r ≡ table1 ⌝ }
+{
+    type1::TABLE
+}
+
+// Type 2: descriptions.
+pub fn descriptions() -> [u8; 1782]
+    ensures { λ r. ⌜ r ≡ table2 ⌝ }
+{
+    type2::TABLE
+}

@@ -1,0 +1,48 @@
+-- What the inner functions of a segment promise: a find, and the pair's outcome as one number and one array.
+use mathlib.Core.Path.{_≡_}
+use Prim.Native.Nat.{ℕ, _+_, _*_, _<_, _≤_}
+use mathlib.Core.List.{List}
+use lib.ListN.{length, drop}
+use lib.Seq.{sets}
+use Rattle.annex_c.specs.Codes.{Reading, symbol, early}
+use Rattle.segment.specs.Bits.{bits}
+use Rattle.segment.specs.Text.{Text, done, refused, unit, units}
+use Rattle.segment.specs.Segment.{codedText, rawText}
+use Rattle.segment.specs.declared.Found.{Found}
+use Rattle.segment.specs.declared.Found.the-variants.{Symbol, Early}
+
+-- after the prior symbol p the bits of s from `at` on begin with the symbol u, and the bit after it is `next`
+pub record SymbolAt (read : ℕ → List ℕ → Reading) (s : List ℕ) (at p u next : ℕ) : Type 0 where
+  pub reads : read p (drop at (bits s)) ≡ symbol u (drop next (bits s))
+  pub onward : at < next
+  pub inside : next ≤ 8 * length s
+
+-- what a find says
+abbrev pub Finds : (ℕ → List ℕ → Reading) → List ℕ → ℕ → ℕ → Found → Type 0
+Finds read s at p Early = read p (drop at (bits s)) ≡ early
+Finds read s at p (Symbol u next) = SymbolAt read s at p u next
+
+-- the place after the last unit, where n units stand before, or 4096 and a refusal's number
+unfoldable pub answer : ℕ → Text → ℕ
+answer n done = n
+answer n (refused k) = 4096 + k
+answer n (unit u x) = answer (n + 1) x
+
+-- the text x is read with n units in the array l: the answer is r, and the array is then e
+pub record Outcome (x : Text) (n : ℕ) (l : List ℕ) (r : ℕ) (e : List ℕ) : Type 0 where
+  pub answers : r ≡ answer n x
+  pub stores : e ≡ sets l n (units x)
+
+-- so the bits of s from `at` on are read, from a coded symbol after the prior symbol p, by any number that is at least the bits left
+pub record CodedAt (read : ℕ → List ℕ → Reading) (s : List ℕ) (at p n : ℕ) (l : List ℕ) (r : ℕ) (e : List ℕ) : Type 0 where
+  pub by : (k : ℕ) → 8 * length s ≤ at + k → Outcome (codedText read k p (drop at (bits s))) n l r e
+
+-- and from a raw character on, of a symbol that began with `left` bits left
+pub record RawAt (read : ℕ → List ℕ → Reading) (s : List ℕ) (at left n : ℕ) (l : List ℕ) (r : ℕ) (e : List ℕ) : Type 0 where
+  pub by : (k : ℕ) → 8 * length s ≤ at + k → Outcome (rawText read k left (drop at (bits s))) n l r e
+
+-- where the pair stands: the place is inside the bits, and the array has room for a unit for each bit left
+pub record Room (s : List ℕ) (at n : ℕ) : Type 0 where
+  pub short : length s ≤ 255
+  pub inside : at ≤ 8 * length s
+  pub space : n + 8 * length s ≤ 2040 + at

@@ -1,0 +1,3 @@
+pub mod EntryLaws
+pub mod RowLaws
+pub mod EitLaws

@@ -1,0 +1,4 @@
+pub mod Parts
+pub mod Titles
+pub mod Eits
+pub mod Etts

@@ -1,0 +1,209 @@
+// The event information table.
+use crate::inner::Part;
+use crate::inner::RowsAnswer;
+use crate::inner::entry_place;
+use crate::inner::narrow;
+use crate::inner::put4;
+use body::Entry;
+use bytes_at::Walk;
+use bytes_at::byte;
+use bytes_at::long;
+use bytes_at::word;
+use kind::Kind;
+use refusal::Refusal;
+use section::Head;
+use section::judge_kind;
+ghost use mathlib.Core.Path.{_≡_};
+ghost use Prim.Native.Nat.{_+_, _-_, _*_, _%_, _<_, _≤_};
+ghost use lib.ListN.{length};
+ghost use lib.Seq.{sets};
+ghost use Rattle.bytes_at.specs.Fields.{byteAt, wordAt};
+ghost use Rattle.bytes_at.specs.Walks.{many};
+ghost use Rattle.format.specs.Formats.{walks};
+ghost use Rattle.body.specs.Bodies as bodies;
+ghost use Rattle.table.specs.Parts.{Stands, roomFor, withRows, rowsOutcome};
+ghost use Rattle.table.specs.Titles.{titleOf};
+ghost use Rattle.table.specs.Eits.{fieldsOutcome, fieldsOf, eventRow, eventOf, entryOutcome, eventIn, entryOf, eventTimes, eventParts, eventEnd, eventRows, rowsOf};
+
+// A title is one of three.
+pub enum Title {
+    None,
+    NoStrings,
+    Text(Part),
+}
+
+pub struct Table {
+    pub source: usize,
+    pub count: usize,
+}
+
+pub enum TableAnswer {
+    Refused(Refusal),
+    Are(Table),
+}
+
+pub struct Event {
+    pub event_id: usize,
+    pub start_time: usize,
+    pub etm_location: usize,
+    pub length_in_seconds: usize,
+    pub title: Title,
+    pub descriptors: Part,
+}
+
+pub enum EntryAnswer {
+    Refused(Refusal),
+    Is(Event),
+}
+
+// The source and the count of events.
+pub fn fields(s: &[u8]) -> TableAnswer
+    ensures { λ r. ⌜ fieldsOutcome r ≡ fieldsOf (now (s .entry)) ⌝ }
+{
+    match judge_kind(s, Kind::Eit) {
+        Head::Refused(k) => TableAnswer::Refused(k),
+        Head::Passes(h) => TableAnswer::Are(Table {
+            source: h.extension,
+            count: byte(s, 9),
+        }),
+    }
+}
+
+// Event i, from 0.
+pub fn entry(s: &[u8], i: usize) -> EntryAnswer
+    ensures { λ r. ⌜ entryOutcome r ≡ entryOf (now (s .entry)) i ⌝ }
+{
+    match judge_kind(s, Kind::Eit) {
+        Head::Refused(k) => EntryAnswer::Refused(k),
+        Head::Passes(_h) => event_in(s, i),
+    }
+}
+
+// Event i of a section that was judged.
+fn event_in(s: &[u8], i: usize) -> EntryAnswer
+    ensures { λ r. ⌜ entryOutcome r ≡ eventIn (now (s .entry)) i ⌝ }
+{
+    if i < byte(s, 9) {
+        match entry_place(s, Entry::Event, 10, i) {
+            Walk::To(a) => EntryAnswer::Is(event_at(s, a)),
+            Walk::Bad(_x) => EntryAnswer::Refused(Refusal::Body),
+        }
+    } else {
+        EntryAnswer::Refused(Refusal::NoSuchEntry)
+    }
+}
+
+// The event that begins at a.
+fn event_at(s: &[u8], a: usize) -> Event
+    requires { ⌜ a ≤ length (now s) ⌝ }
+    ensures { λ r. ⌜ r ≡ eventOf (now (s .entry)) (eventRow (now (s .entry)) a) ⌝ }
+{
+    let n = byte(s, a + 9);
+    let x = byte(s, a + 6);
+    let t = title_of(s, a + 10, n);
+    let d = Part {
+        start: a + 12 + n,
+        length: word(s, a + 10 + n) % 4096,
+    };
+    Event {
+        event_id: word(s, a) % 16384,
+        start_time: long(s, a + 2),
+        etm_location: x / 16 % 4,
+        length_in_seconds: x % 16 * 65536 + word(s, a + 7),
+        title: t,
+        descriptors: d,
+    }
+}
+
+// The sort of a title that begins at `start` and has n bytes.
+pub fn title_of(s: &[u8], start: usize, n: usize) -> Title
+    ensures { λ r. ⌜ r ≡ titleOf (now (s .entry)) start n ⌝ }
+{
+    if n == 0 {
+        return Title::None;
+    }
+    if n == 1 {
+        if byte(s, start) == 0 {
+            return Title::NoStrings;
+        }
+        return Title::Text(Part { start, length: n });
+    }
+    Title::Text(Part { start, length: n })
+}
+
+// The first four numbers of a row, from p on.
+fn put_times(s: &[u8], a: usize, p: usize, out: &mut [u32])
+    requires { ⌜ (a ≤ length (now s)) × (p + 4 ≤ length (now out)) ⌝ }
+    ensures { λ _. ⌜ now (out .exit) ≡ sets (now (out .entry)) p (eventTimes (now (s .entry)) a) ⌝ }
+{
+    let x = byte(s, a + 6);
+    let id = narrow(word(s, a) % 16384);
+    let start = narrow(long(s, a + 2));
+    let seconds = narrow(x % 16 * 65536 + word(s, a + 7));
+    put4(out, p, id, start, narrow(x / 16 % 4), seconds);
+}
+
+// The last four numbers of a row, from p on, and where the next event begins.
+fn put_parts(s: &[u8], a: usize, p: usize, out: &mut [u32]) -> usize
+    requires { ⌜ ((a ≤ length (now s)) × (length (now s) ≤ 4096)) × (p + 4 ≤ length (now out)) ⌝ }
+    ensures next { λ r. ⌜ r ≡ eventEnd (now (s .entry)) a ⌝ }
+    ensures puts { λ _. ⌜ now (out .exit) ≡ sets (now (out .entry)) p (eventParts (now (s .entry)) a) ⌝ }
+{
+    let n = byte(s, a + 9);
+    let d = a + 12 + n;
+    let m = word(s, a + 10 + n) % 4096;
+    put4(out, p, narrow(a + 10), narrow(n), narrow(d), narrow(m));
+    d + m
+}
+
+// The row of the event that begins at a, from p on, and where the next event begins.
+fn put_row(s: &[u8], a: usize, p: usize, out: &mut [u32]) -> usize
+    requires { ⌜ ((a ≤ length (now s)) × (length (now s) ≤ 4096)) × (p + 8 ≤ length (now out)) ⌝ }
+    ensures next { λ r. ⌜ r ≡ eventEnd (now (s .entry)) a ⌝ }
+    ensures puts { λ _. ⌜ now (out .exit) ≡ sets (now (out .entry)) p (eventRow (now (s .entry)) a) ⌝ }
+{
+    put_times(s, a, p, out);
+    put_parts(s, a, p + 4, out)
+}
+
+// The rows of n events.
+fn put_rows(s: &[u8], n: usize, out: &mut [u32])
+    requires { ⌜ (Stands (many (walks (bodies.entryOf Entry.Event) (now s) (length (now s) - 4)) n 10)) × (((10 ≤ length (now s)) × (length (now s) ≤ 4096)) × (8 * n ≤ length (now out))) ⌝ }
+    ensures { λ _. ⌜ now (out .exit) ≡ sets (now (out .entry)) 0 (eventRows (now (s .entry)) n) ⌝ }
+{
+    let mut a = 10;
+    let mut p = 0;
+    let mut left = n;
+    while 0 < left {
+        a = put_row(s, a, p, out);
+        p += 8;
+        left -= 1;
+    }
+}
+
+// The rows of a section that was judged.
+fn rows_in(s: &[u8], out: &mut [u32]) -> RowsAnswer
+    requires { ⌜ (Stands (many (walks (bodies.entryOf Entry.Event) (now s) (length (now s) - 4)) (byteAt (now s) 9) 10)) × ((10 ≤ length (now s)) × (length (now s) ≤ 4096)) ⌝ }
+    ensures told { λ r. ⌜ rowsOutcome r ≡ roomFor 8 (byteAt (now (s .entry)) 9) (length (now (out .entry))) ⌝ }
+    ensures put { λ _. ⌜ now (out .exit) ≡ withRows (roomFor 8 (byteAt (now (s .entry)) 9) (length (now (out .entry)))) (eventRows (now (s .entry))) (now (out .entry)) ⌝ }
+{
+    let n = byte(s, 9);
+    if out.len() < 8 * n {
+        return RowsAnswer::Refused(Refusal::OutputShort);
+    }
+    put_rows(s, n, out);
+    RowsAnswer::Are(n)
+}
+
+// The rows of all events, eight numbers an event: event_id, start_time, ETM_location,
+// length_in_seconds, where the title begins, title_length, where the descriptors begin,
+// descriptors_length.
+pub fn rows(s: &[u8], out: &mut [u32]) -> RowsAnswer
+    ensures told { λ r. ⌜ rowsOutcome r ≡ rowsOf (now (s .entry)) (length (now (out .entry))) ⌝ }
+    ensures put { λ _. ⌜ now (out .exit) ≡ withRows (rowsOf (now (s .entry)) (length (now (out .entry)))) (eventRows (now (s .entry))) (now (out .entry)) ⌝ }
+{
+    match judge_kind(s, Kind::Eit) {
+        Head::Refused(k) => RowsAnswer::Refused(k),
+        Head::Passes(_h) => rows_in(s, out),
+    }
+}
