@@ -4,7 +4,7 @@ use mathlib.Core.Path.{_≡_, refl}
 use Rattle.checksum.specs.Register.{sealed, fourBytes}
 use Rattle.checksum.proofs.Sealing.{sealed-sound}
 use Rattle.bytes_at.specs.Choices.{ifLt, ifEq}
-use Rattle.kind.specs.Kinds.{kindOf}
+use Rattle.kind.specs.Kinds.{kindOf, onlyOf}
 use Rattle.bytes_at.specs.Walks.{skipTo, bitsTo, fieldsTo, then, many, ends}
 use Rattle.format.specs.Lawful.{unto}
 use Rattle.strings.specs.Strings.{segment, string, structure, text, sizedText}
@@ -12,8 +12,15 @@ use Rattle.descriptor.specs.Descriptors.{content, descriptor, descriptors, size
 use Rattle.body.specs.Bodies.{event, table, channel, value, dimension, entryOf, counted, tables, dimensions, mgt, tvct, rrt, eit, ett, bodyOf}
 use Rattle.section.specs.Headers.{headerBy, ofKind, lengthTests, checksumTest, numberTests}
 use Rattle.section.specs.Sections.{sectionBy, verdictBy, withBody, bodyTest}
-use Rattle.marked.specs.Sections.{eit11, eit4093, tvct1021, mgt14, rrt18, ett15, teaSection}
-use Rattle.marked.specs.Marked.{Mark, P1, P2, P3, P4, P5, P6, P7, P9, Says, marked, All}
+use Rattle.refusal.specs.Outcomes.{after}
+use Rattle.table.specs.Parts.{entryWalk}
+use Rattle.table.specs.Titles.{titleOf}
+use Rattle.table.specs.Eits as eits
+use Rattle.text.specs.Segments.{wayOf, pairs, utf16Units, unitsBy, segmentUnits}
+use Rattle.text.specs.Strings.{standing, stringCount, stringAt, joined, joinedUnits, stringUnits}
+use Rattle.text.specs.Texts.{ofField, fieldUnits}
+use Rattle.marked.specs.Sections.{eit11, eit4093, tvct1021, mgt14, rrt18, ett15, teaSection, noTitle, zeroTitle}
+use Rattle.marked.specs.Marked.{Mark, P1, P2, P3, P4, P5, P6, P7, P8, P9, P12, Says, marked, All}
 
 p1 : Says P1
 unfolding headerBy ofKind lengthTests checksumTest numberTests ifLt ifEq kindOf sealed fourBytes sectionBy verdictBy withBody bodyTest bodyOf entryOf counted then many ends skipTo bitsTo fieldsTo unto segment string structure text sizedText content descriptor descriptors sizedDescriptors eit event
@@ -43,9 +50,17 @@ p7 : Says P7
 unfolding headerBy ofKind lengthTests checksumTest numberTests ifLt ifEq kindOf sealed fourBytes sectionBy verdictBy withBody bodyTest bodyOf entryOf counted then many ends skipTo bitsTo fieldsTo unto segment string structure text sizedText content descriptor descriptors sizedDescriptors eit event
 p7 = (rw (sealed-sound (eit11 3 3)), rw (sealed-sound (eit11 4 3)))
 
+p8 : Says P8
+unfolding headerBy ofKind lengthTests checksumTest numberTests ifLt ifEq kindOf sealed fourBytes sectionBy verdictBy withBody bodyTest bodyOf entryOf counted then many ends skipTo bitsTo fieldsTo unto segment string structure text sizedText content descriptor descriptors sizedDescriptors eit event onlyOf after entryWalk titleOf eits.eventTimes eits.eventParts eits.eventRow eits.eventOf eits.placeIn eits.placeOf eits.entryOf
+p8 = (rw (sealed-sound noTitle), rw (sealed-sound zeroTitle))
+
 p9 : Says P9
 unfolding headerBy ofKind lengthTests checksumTest numberTests ifLt ifEq kindOf sealed fourBytes sectionBy verdictBy withBody bodyTest bodyOf entryOf counted then many ends skipTo bitsTo fieldsTo unto segment string structure text sizedText content descriptor descriptors sizedDescriptors eit event
 p9 = (refl, (refl, (refl, rw (sealed-sound teaSection))))
 
+p12 : Says P12
+unfolding ifLt ifEq skipTo bitsTo fieldsTo then many ends after segment string structure text wayOf pairs utf16Units unitsBy segmentUnits standing stringCount stringAt joined joinedUnits stringUnits ofField fieldUnits
+p12 = (refl, refl)
+
 pub shown : All marked
-shown = (p1, (p2, (p3, (p4, (p5, (p6, (p7, (p9, record {}))))))))
+shown = (p1, (p2, (p3, (p4, (p5, (p6, (p7, (p8, (p9, (p12, record {}))))))))))

@@ -9,7 +9,11 @@ use Rattle.kind.specs.declared.Kind.{Kind}
 use Rattle.kind.specs.declared.Kind.the-variants.{Mgt, Tvct, Rrt, Eit, Ett}
 use Rattle.kind.specs.Kinds.{kindOf}
 use Rattle.section.specs.Sections.{sectionBy}
-use Rattle.marked.specs.Sections.{eit11, eit10, eit4093, eit4094, tvct1021, tvct1022, mgt14, mgt13, rrt18, rrt17, ett15, ett14, teaText, teaEvent, teaSection}
+use Rattle.table.specs.declared.eit.Title.{Title}
+use Rattle.table.specs.declared.eit.Title.the-variants.{None, NoStrings}
+use Rattle.table.specs.Eits as eits
+use Rattle.text.specs.Texts.{fieldUnits}
+use Rattle.marked.specs.Sections.{eit11, eit10, eit4093, eit4094, tvct1021, tvct1022, mgt14, mgt13, rrt18, rrt17, ett15, ett14, teaText, teaEvent, teaSection, noTitle, zeroTitle, utf16}
 
 -- a section, sealed, is sound, and its header's fields are these
 abbrev pub Passes : Kind → ℕ → ℕ → List ℕ → Type 0
@@ -20,6 +24,19 @@ Passes k number last s =
 abbrev pub RefusedBy : ℕ → List ℕ → Type 0
 RefusedBy n s = sectionBy kindOf (sealed s) ≡ refused n
 
+-- event 0 of an EIT, sealed, has this title, and its empty descriptor list begins at this place
+abbrev pub Titled : Title → ℕ → List ℕ → Type 0
+Titled t at s =
+    eits.entryOf (sealed s) 0
+    ≡ result (record {
+      «event_id» = 5;
+      «start_time» = 1000;
+      «etm_location» = 0;
+      «length_in_seconds» = 1800;
+      title = t;
+      descriptors = record { start = at; length = 0 };
+    })
+
 pub data Mark : Type 0 where
   P1 : Mark
   P2 : Mark
@@ -28,7 +45,9 @@ pub data Mark : Type 0 where
   P5 : Mark
   P6 : Mark
   P7 : Mark
+  P8 : Mark
   P9 : Mark
+  P12 : Mark
 
 -- what each example says
 abbrev pub Says : Mark → Type 0
@@ -39,11 +58,13 @@ Says P4 = Passes Mgt 0 0 mgt14 × RefusedBy 4 mgt13
 Says P5 = Passes Rrt 0 0 rrt18 × RefusedBy 4 rrt17
 Says P6 = Passes Ett 0 0 ett15 × RefusedBy 4 ett14
 Says P7 = Passes Eit 3 3 (eit11 3 3) × RefusedBy 8 (eit11 4 3)
+Says P8 = Titled None 22 noTitle × Titled NoStrings 23 zeroTitle
 Says P9 = (length teaText ≡ 11) × ((length teaEvent ≡ 23) × ((length (sealed teaSection) ≡ 37) × Passes Eit 0 0 teaSection))
+Says P12 = (fieldUnits (utf16 0 []) 0 ≡ result []) × (fieldUnits (utf16 3 (0 ∷ 65 ∷ 0 ∷ [])) 0 ≡ refused 11)
 
 -- the list
 abbrev pub marked : List Mark
-marked = P1 ∷ P2 ∷ P3 ∷ P4 ∷ P5 ∷ P6 ∷ P7 ∷ P9 ∷ []
+marked = P1 ∷ P2 ∷ P3 ∷ P4 ∷ P5 ∷ P6 ∷ P7 ∷ P8 ∷ P9 ∷ P12 ∷ []
 
 -- each of a list holds
 abbrev pub All : List Mark → Type 0

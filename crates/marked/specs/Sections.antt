@@ -70,3 +70,14 @@ teaEvent = 0xC0 ∷ 5 ∷ 0 ∷ 0 ∷ 3 ∷ 232 ∷ 0xC0 ∷ 7 ∷ 8 ∷ 11 ∷ 
 
 abbrev pub teaSection : List ℕ
 teaSection = unsealed 0xCB 0 34 0 0 (1 ∷ teaEvent)
+
+-- an EIT with one event whose title has no bytes, and one whose title is the byte 0
+abbrev pub noTitle : List ℕ
+noTitle = unsealed 0xCB 0 23 0 0 (1 ∷ 0xC0 ∷ 5 ∷ 0 ∷ 0 ∷ 3 ∷ 232 ∷ 0xC0 ∷ 7 ∷ 8 ∷ 0 ∷ 0xF0 ∷ 0 ∷ [])
+
+abbrev pub zeroTitle : List ℕ
+zeroTitle = unsealed 0xCB 0 24 0 0 (1 ∷ 0xC0 ∷ 5 ∷ 0 ∷ 0 ∷ 3 ∷ 232 ∷ 0xC0 ∷ 7 ∷ 8 ∷ 1 ∷ 0 ∷ 0xF0 ∷ 0 ∷ [])
+
+-- a text of one English string in one segment of UTF-16
+abbrev pub utf16 : ℕ → List ℕ → List ℕ
+utf16 n bytes = 1 ∷ 101 ∷ 110 ∷ 103 ∷ 1 ∷ 0 ∷ 0x3F ∷ n ∷ bytes

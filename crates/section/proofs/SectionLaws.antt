@@ -14,9 +14,9 @@ use Rattle.checksum.specs.Register.{register}
 use Rattle.kind.specs.declared.Kind.{Kind}
 use Rattle.kind.specs.declared.Found.{Found}
 use Rattle.kind.specs.declared.Found.the-variants.{Is, Nothing}
-use Rattle.kind.specs.Kinds.{limitsOf, tableIdOf, onlyOf}
+use Rattle.kind.specs.Kinds.{limitsOf, tableIdOf, kindOf, onlyOf}
 use Rattle.section.specs.declared.header.Header.{Header}
-use Rattle.section.specs.Headers.{tableId, sectionLength, headerFields, headerBy, ofKind, lengthTests, checksumTest, numberTests}
+use Rattle.section.specs.Headers.{tableId, sectionLength, sectionNumber, lastSectionNumber, headerFields, headerBy, ofKind, lengthTests, checksumTest, numberTests}
 use Rattle.section.specs.Sections.{Verdict, refusedBy, brokenAt, soundWith, bodyWalk, walked, bodyTest, withBody, verdictBy, plainly, sectionBy}
 use Rattle.section.proofs.PassLaws.{no-result, not-less, equal, not-equal}
 
@@ -26,6 +26,7 @@ pub record Passed (k : Kind) (s : List ℕ) (h : Header) : Type 0 where
   pub largest : sectionLength s ≤ limitsOf k .largest
   pub size : length s ≡ sectionLength s + 3
   pub register-zero : register s ≡ 0
+  pub number-last : sectionNumber s ≤ lastSectionNumber s
   pub fields : h ≡ headerFields k s
 
 same : {A : Type 0} (a b : A) → result a ≡ result b → b ≡ a
@@ -40,8 +41,9 @@ of-kind k s h e =
     let e6 = equal _ _ _ _ _ (e5 .1) in
     let e7 = equal _ _ _ _ _ (e6 .1) in
     let e8 = equal _ _ _ _ _ (e7 .1) in
-    let e9 = not-less _ _ _ _ _ (not-less _ _ _ _ _ (e8 .1) .1) in
-    record { smallest = e4 .0; largest = e5 .0; size = e6 .0; register-zero = e7 .0; fields = same _ _ (e9 .1) }
+    let e9 = not-less _ _ _ _ _ (e8 .1) in
+    let e10 = not-less _ _ _ _ _ (e9 .1) in
+    record { smallest = e4 .0; largest = e5 .0; size = e6 .0; register-zero = e7 .0; number-last = e9 .0; fields = same _ _ (e10 .1) }
 
 only-kind : (k : Kind) (s : List ℕ) (h : Header) (t : Bool) → ofKind s (pick t (Is k) Nothing) ≡ result h → ofKind s (Is k) ≡ result h
 unfolding ofKind
@@ -51,6 +53,16 @@ only-kind k s h false e = no-result 2 h e
 pub header-passed : (k : Kind) (s : List ℕ) (h : Header) → headerBy (onlyOf k) s ≡ result h → Passed k s h
 unfolding headerBy onlyOf ifEq
 header-passed k s h e = of-kind k s h (only-kind k s h (eqb (tableId s) (tableIdOf k)) (not-less _ _ _ _ _ e .1))
+
+any-kind : (f : Found) (s : List ℕ) (h : Header) → ofKind s f ≡ result h → (k : Kind) × Passed k s h
+unfolding ofKind
+any-kind Nothing s h e = no-result 2 h e
+any-kind (Is k) s h e = (k, of-kind k s h e)
+
+-- the same of a call that reads every kind
+pub any-header-passed : (s : List ℕ) (h : Header) → headerBy kindOf s ≡ result h → (k : Kind) × Passed k s h
+unfolding headerBy
+any-header-passed s h e = any-kind (kindOf (tableId s)) s h (not-less _ _ _ _ _ e .1)
 
 walk-stood : (w : Walk) (g h : Header) → plainly (walked w g) ≡ result h → ((e : ℕ) × (w ≡ To e)) × (h ≡ g)
 walk-stood (To e) g h p = ((e, refl), same g h p)
@@ -63,6 +75,11 @@ with-body (refused n) s h p = no-result n h p
 with-body (result g) s h p =
     let w = walk-stood (bodyWalk (g .kind) s) g h p in
     (ap result (sym (w .1)), rw (w .1) (w .0))
+
+-- a section that is sound has passed the header's tests
+pub section-header : (finds : ℕ → Found) (s : List ℕ) (h : Header) → sectionBy finds s ≡ result h → headerBy finds s ≡ result h
+unfolding sectionBy verdictBy
+section-header finds s h p = with-body (headerBy finds s) s h p .0
 
 -- a section of kind k that is sound: its header has passed, and the walk through its body stands
 pub section-sound : (k : Kind) (s : List ℕ) (h : Header) → sectionBy (onlyOf k) s ≡ result h

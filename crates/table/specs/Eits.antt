@@ -1,6 +1,7 @@
 -- Document 01, "Bodies", EIT: the table's fields, the fields of event i, and the rows of all events.
 use Prim.Native.Nat.{ℕ, zero, suc, _+_, _-_, _*_, _/_, _%_}
 use mathlib.Core.List.{List, [], _∷_, _++_}
+use mathlib.Core.Option.{Option, none, some}
 use lib.ListN.{length, getD, drop}
 use Rattle.bytes_at.specs.declared.Walk.{Walk}
 use Rattle.bytes_at.specs.declared.Walk.the-variants.{To, Bad}
@@ -19,6 +20,15 @@ use Rattle.table.specs.declared.eit.TableAnswer.the-variants.{Refused, A
 use Rattle.table.specs.declared.eit.Event.{Event}
 use Rattle.table.specs.declared.eit.EntryAnswer.{EntryAnswer}
 use Rattle.table.specs.declared.eit.EntryAnswer.the-variants as entries
+use Rattle.table.specs.declared.eit.Spot.{Spot}
+use Rattle.table.specs.declared.eit.Spot.the-variants as spots
+use Rattle.table.specs.declared.eit.RatingAnswer.{RatingAnswer}
+use Rattle.table.specs.declared.eit.RatingAnswer.the-variants as ratings
+use Rattle.table.specs.declared.eit.DescriptorAnswer.{DescriptorAnswer}
+use Rattle.table.specs.declared.eit.DescriptorAnswer.the-variants as descriptors
+use Rattle.table.specs.declared.eit.TextAnswer.{TextAnswer}
+use Rattle.table.specs.declared.eit.TextAnswer.the-variants as texts
+use Rattle.rating.specs.Ratings.{Rated, ratedOf, ratingIn, Descriptor, descriptorIn, Place, textIn}
 use Rattle.table.specs.Parts.{entryWalk, rowsFrom, roomFor}
 use Rattle.table.specs.Titles.{titleOf}
 
@@ -37,6 +47,23 @@ fieldsOutcome (Are f) = result f
 
 unfoldable pub fieldsOf : List ℕ → Outcome Table
 fieldsOf s = after (judgedEit s) (λ h. result (eitFields h s))
+
+-- ---- where event i begins
+-- the place where a walk stands (in a section that was judged it always stands)
+abbrev pub standing : Walk → Outcome ℕ
+standing (To a) = result a
+standing (Bad x) = refused 9
+
+-- 13 where there is no event i
+unfoldable pub placeIn : List ℕ → ℕ → Outcome ℕ
+placeIn s i = ifLt i (byteAt s 9) (standing (entryWalk sorts.Event s 10 i)) (refused 13)
+
+unfoldable pub placeOf : List ℕ → ℕ → Outcome ℕ
+placeOf s i = after (judgedEit s) (λ h. placeIn s i)
+
+abbrev pub spotOutcome : Spot → Outcome ℕ
+spotOutcome (spots.Refused k) = refused (numberOf k)
+spotOutcome (spots.At a) = result a
 
 -- ---- an event that begins at a
 -- event_id, start_time, ETM_location, length_in_seconds
@@ -71,17 +98,8 @@ abbrev pub entryOutcome : EntryAnswer → Outcome Event
 entryOutcome (entries.Refused k) = refused (numberOf k)
 entryOutcome (entries.Is e) = result e
 
--- the fields of the event where a walk stands (in a section that was judged it always stands)
-abbrev pub eventWhere : List ℕ → Walk → Outcome Event
-eventWhere s (To a) = result (eventOf s (eventRow s a))
-eventWhere s (Bad x) = refused 9
-
--- 13 where there is no event i
-unfoldable pub eventIn : List ℕ → ℕ → Outcome Event
-eventIn s i = ifLt i (byteAt s 9) (eventWhere s (entryWalk sorts.Event s 10 i)) (refused 13)
-
 unfoldable pub entryOf : List ℕ → ℕ → Outcome Event
-entryOf s i = after (judgedEit s) (λ h. eventIn s i)
+entryOf s i = after (placeOf s i) (λ a. result (eventOf s (eventRow s a)))
 
 -- ---- all events
 -- the rows of n events
@@ -91,3 +109,41 @@ eventRows s n = rowsFrom eventRow sorts.Event s n 10
 -- how many rows there are, or 12 where a list of this length has no room for them
 unfoldable pub rowsOf : List ℕ → ℕ → Outcome ℕ
 rowsOf s room = after (judgedEit s) (λ h. roomFor 8 (byteAt s 9) room)
+
+-- ---- questions to the descriptors of event i
+-- where the descriptors of the event at a begin and end
+abbrev pub descriptorsStart : List ℕ → ℕ → ℕ
+descriptorsStart s a = a + 12 + byteAt s (a + 9)
+
+abbrev pub descriptorsEnd : List ℕ → ℕ → ℕ
+descriptorsEnd s a = descriptorsStart s a + wordAt s (a + 10 + byteAt s (a + 9)) % 4096
+
+-- the rating question
+unfoldable pub ratingOf : List ℕ → ℕ → ℕ → ℕ → Outcome Rated
+ratingOf s i region dimension =
+    after (placeOf s i) (λ a. result (ratingIn s region dimension (descriptorsEnd s a) (descriptorsStart s a)))
+
+abbrev pub ratingOutcome : RatingAnswer → Outcome Rated
+ratingOutcome (ratings.Refused k) = refused (numberOf k)
+ratingOutcome (ratings.Is r) = result (ratedOf r)
+
+-- 13 where nothing was found
+abbrev pub orNone : {A : Type 0} → Option A → Outcome A
+orNone none = refused 13
+orNone (some x) = result x
+
+-- descriptor k of event i
+unfoldable pub descriptorOf : List ℕ → ℕ → ℕ → Outcome Descriptor
+descriptorOf s i k = after (placeOf s i) (λ a. orNone (descriptorIn s (descriptorsEnd s a) k (descriptorsStart s a)))
+
+abbrev pub descriptorOutcome : DescriptorAnswer → Outcome Descriptor
+descriptorOutcome (descriptors.Refused k) = refused (numberOf k)
+descriptorOutcome (descriptors.Is t p) = result (record { tag = t; start = p .start; size = p .length })
+
+-- the text of the first such region in the first content advisory of event i
+unfoldable pub advisoryTextOf : List ℕ → ℕ → ℕ → Outcome Place
+advisoryTextOf s i region = after (placeOf s i) (λ a. orNone (textIn s region (descriptorsEnd s a) (descriptorsStart s a)))
+
+abbrev pub textOutcome : TextAnswer → Outcome Place
+textOutcome (texts.Refused k) = refused (numberOf k)
+textOutcome (texts.Is p) = result (record { start = p .start; size = p .length })

@@ -1,4 +1,5 @@
 pub mod Parts
 pub mod Titles
+pub mod Spots
 pub mod Eits
 pub mod Etts

@@ -10,6 +10,11 @@ use bytes_at::byte;
 use bytes_at::long;
 use bytes_at::word;
 use kind::Kind;
+use rating::Found;
+use rating::Rating;
+use rating::advisory_text_in;
+use rating::descriptor_in;
+use rating::rating_in;
 use refusal::Refusal;
 use section::Head;
 use section::judge_kind;
@@ -23,7 +28,10 @@ ghost use Rattle.format.specs.Formats.{walks};
 ghost use Rattle.body.specs.Bodies as bodies;
 ghost use Rattle.table.specs.Parts.{Stands, roomFor, withRows, rowsOutcome};
 ghost use Rattle.table.specs.Titles.{titleOf};
-ghost use Rattle.table.specs.Eits.{fieldsOutcome, fieldsOf, eventRow, eventOf, entryOutcome, eventIn, entryOf, eventTimes, eventParts, eventEnd, eventRows, rowsOf};
+ghost use Rattle.table.specs.Eits.{fieldsOutcome, fieldsOf, eventRow, eventOf, entryOutcome, spotOutcome, placeIn, placeOf, entryOf, eventTimes, eventParts, eventEnd, eventRows, rowsOf, descriptorsStart, descriptorsEnd, ratingOf, ratingOutcome, orNone, descriptorOf, descriptorOutcome, advisoryTextOf, textOutcome};
+ghost use Rattle.table.specs.Spots.{Inside};
+ghost use Rattle.refusal.specs.Outcomes.{result};
+ghost use Rattle.rating.specs.Ratings.{descriptorIn, textIn};
 
 // A title is one of three.
 pub enum Title {
@@ -51,6 +59,27 @@ pub struct Event {
     pub descriptors: Part,
 }
 
+// Where an event begins, or a refusal.
+enum Spot {
+    Refused(Refusal),
+    At(usize),
+}
+
+pub enum RatingAnswer {
+    Refused(Refusal),
+    Is(Rating),
+}
+
+pub enum DescriptorAnswer {
+    Refused(Refusal),
+    Is(usize, Part),
+}
+
+pub enum TextAnswer {
+    Refused(Refusal),
+    Is(Part),
+}
+
 pub enum EntryAnswer {
     Refused(Refusal),
     Is(Event),
@@ -73,23 +102,33 @@ pub fn fields(s: &[u8]) -> TableAnswer
 pub fn entry(s: &[u8], i: usize) -> EntryAnswer
     ensures { λ r. ⌜ entryOutcome r ≡ entryOf (now (s .entry)) i ⌝ }
 {
-    match judge_kind(s, Kind::Eit) {
-        Head::Refused(k) => EntryAnswer::Refused(k),
-        Head::Passes(_h) => event_in(s, i),
+    match place_of(s, i) {
+        Spot::Refused(k) => EntryAnswer::Refused(k),
+        Spot::At(a) => EntryAnswer::Is(event_at(s, a)),
     }
 }
 
-// Event i of a section that was judged.
-fn event_in(s: &[u8], i: usize) -> EntryAnswer
-    ensures { λ r. ⌜ entryOutcome r ≡ eventIn (now (s .entry)) i ⌝ }
+// Where event i begins.
+fn place_of(s: &[u8], i: usize) -> Spot
+    ensures { λ r. ⌜ (spotOutcome r ≡ placeOf (now (s .entry)) i) × Inside (now (s .entry)) r ⌝ }
+{
+    match judge_kind(s, Kind::Eit) {
+        Head::Refused(k) => Spot::Refused(k),
+        Head::Passes(_h) => place_in(s, i),
+    }
+}
+
+// The same in a section that was judged.
+fn place_in(s: &[u8], i: usize) -> Spot
+    ensures { λ r. ⌜ (spotOutcome r ≡ placeIn (now (s .entry)) i) × Inside (now (s .entry)) r ⌝ }
 {
     if i < byte(s, 9) {
         match entry_place(s, Entry::Event, 10, i) {
-            Walk::To(a) => EntryAnswer::Is(event_at(s, a)),
-            Walk::Bad(_x) => EntryAnswer::Refused(Refusal::Body),
+            Walk::To(a) => Spot::At(a),
+            Walk::Bad(_x) => Spot::Refused(Refusal::Body),
         }
     } else {
-        EntryAnswer::Refused(Refusal::NoSuchEntry)
+        Spot::Refused(Refusal::NoSuchEntry)
     }
 }
 
@@ -205,5 +244,88 @@ pub fn rows(s: &[u8], out: &mut [u32]) -> RowsAnswer
     match judge_kind(s, Kind::Eit) {
         Head::Refused(k) => RowsAnswer::Refused(k),
         Head::Passes(_h) => rows_in(s, out),
+    }
+}
+
+// The descriptors of the event that begins at a.
+fn descriptors_at(s: &[u8], a: usize) -> Part
+    requires { ⌜ a ≤ length (now s) ⌝ }
+    ensures { λ r. ⌜ ((r .start ≡ descriptorsStart (now (s .entry)) a) × (r .start + r .length ≡ descriptorsEnd (now (s .entry)) a)) × ((r .start ≤ a + 267) × (r .length < 4096)) ⌝ }
+{
+    let n = byte(s, a + 9);
+    Part {
+        start: a + 12 + n,
+        length: word(s, a + 10 + n) % 4096,
+    }
+}
+
+// The rating of event i for a region and a dimension.
+pub fn rating(s: &[u8], i: usize, region: usize, dimension: usize) -> RatingAnswer
+    ensures { λ r. ⌜ ratingOutcome r ≡ ratingOf (now (s .entry)) i region dimension ⌝ }
+{
+    match place_of(s, i) {
+        Spot::Refused(k) => RatingAnswer::Refused(k),
+        Spot::At(a) => {
+            let d = descriptors_at(s, a);
+            let from = d.start;
+            RatingAnswer::Is(rating_in(s, region, dimension, from + d.length, from))
+        }
+    }
+}
+
+// Descriptor k, from 0, of a list.
+fn descriptor_of(s: &[u8], end: usize, from: usize, k: usize) -> DescriptorAnswer
+    ensures { λ r. ⌜ descriptorOutcome r ≡ orNone (descriptorIn (now (s .entry)) end k from) ⌝ }
+{
+    match descriptor_in(s, end, from, k) {
+        Found::Is { tag, start, size } => DescriptorAnswer::Is(
+            tag,
+            Part {
+                start,
+                length: size,
+            },
+        ),
+        Found::Nothing => DescriptorAnswer::Refused(Refusal::NoSuchEntry),
+    }
+}
+
+// Descriptor k of event i: its tag, and the part that its content is.
+pub fn descriptor(s: &[u8], i: usize, k: usize) -> DescriptorAnswer
+    ensures { λ r. ⌜ descriptorOutcome r ≡ descriptorOf (now (s .entry)) i k ⌝ }
+{
+    match place_of(s, i) {
+        Spot::Refused(r) => DescriptorAnswer::Refused(r),
+        Spot::At(a) => {
+            let d = descriptors_at(s, a);
+            let from = d.start;
+            descriptor_of(s, from + d.length, from, k)
+        }
+    }
+}
+
+// The text of the first such region in the first content advisory of a list.
+fn text_of(s: &[u8], region: usize, end: usize, from: usize) -> TextAnswer
+    ensures { λ r. ⌜ textOutcome r ≡ orNone (textIn (now (s .entry)) region end from) ⌝ }
+{
+    match advisory_text_in(s, region, end, from) {
+        rating::Part::Is { start, size } => TextAnswer::Is(Part {
+            start,
+            length: size,
+        }),
+        rating::Part::Nothing => TextAnswer::Refused(Refusal::NoSuchEntry),
+    }
+}
+
+// The text of event i's advisory for a region.
+pub fn advisory_text(s: &[u8], i: usize, region: usize) -> TextAnswer
+    ensures { λ r. ⌜ textOutcome r ≡ advisoryTextOf (now (s .entry)) i region ⌝ }
+{
+    match place_of(s, i) {
+        Spot::Refused(k) => TextAnswer::Refused(k),
+        Spot::At(a) => {
+            let d = descriptors_at(s, a);
+            let from = d.start;
+            text_of(s, region, from + d.length, from)
+        }
     }
 }

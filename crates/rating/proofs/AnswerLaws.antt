@@ -1,0 +1,139 @@
+-- What holds of every answer to a question.
+use Prim.Native.Nat.{ℕ, zero, suc, _+_, _-_, _%_, _≤_, _<_}
+use mathlib.Core.Path.{_≡_, refl, sym, ap, subst, _∙_}
+use mathlib.Core.Logic.{⊎-elim}
+use mathlib.Core.List.{List}
+use mathlib.Core.Option.{Option, none, some}
+use mathlib.Core.Bool.{Bool, true, false}
+use native.Mathlib.Nat.{eq-zero-or-pos}
+use native.Mathlib.Omega.{arith}
+use lib.Dec.{eqb}
+use borrow.Author.Tests.{eqb-true}
+use Rattle.bytes_at.specs.Fields.{byteAt}
+use Rattle.bytes_at.specs.Choices.{pick, ifEq}
+use Rattle.bytes_at.proofs.ChoiceLaws.{lt-no}
+use Rattle.format.specs.Lawful.{Bytes}
+use Rattle.rating.specs.declared.Rating.{Rating}
+use Rattle.rating.specs.declared.Rating.the-variants.{NoAdvisory, RegionAbsent, DimensionAbsent, Value}
+use Rattle.rating.specs.declared.Found.{Found}
+use Rattle.rating.specs.declared.Found.the-variants as found
+use Rattle.rating.specs.declared.Part.{Part}
+use Rattle.rating.specs.declared.Part.the-variants as part
+use Rattle.rating.specs.Ratings.{Rated, noAdvisory, regionAbsent, dimensionAbsent, value, ratedOf, Descriptor, foundOf, Place, partOf, descriptorSize, regionSize, first, advisoryIn, regionIn, ratedByRegion, ratingIn, textAt, textIn}
+use Rattle.rating.proofs.FirstLaws.{first-past}
+
+-- ---- an answer's meaning is that of one answer only
+once-by : {A B : Type 0} (f : A → B) (g : B → A) → ((a : A) → g (f a) ≡ a) → (a b : A) → f a ≡ f b → a ≡ b
+once-by f g back a b e = sym (back a) ∙ ap g e ∙ back b
+
+abbrev ratingOf : Rated → Rating
+ratingOf noAdvisory = NoAdvisory
+ratingOf regionAbsent = RegionAbsent
+ratingOf dimensionAbsent = DimensionAbsent
+ratingOf (value v) = Value v
+
+rating-back : (r : Rating) → ratingOf (ratedOf r) ≡ r
+rating-back NoAdvisory = refl
+rating-back RegionAbsent = refl
+rating-back DimensionAbsent = refl
+rating-back (Value v) = refl
+
+pub rated-once : (a b : Rating) → ratedOf a ≡ ratedOf b → a ≡ b
+rated-once = once-by ratedOf ratingOf rating-back
+
+abbrev descriptorOf : Option Descriptor → Found
+descriptorOf (some d) = found.Is (d .tag) (d .start) (d .size)
+descriptorOf none = found.Nothing
+
+found-back : (r : Found) → descriptorOf (foundOf r) ≡ r
+found-back (found.Is t a n) = refl
+found-back found.Nothing = refl
+
+pub found-once : (a b : Found) → foundOf a ≡ foundOf b → a ≡ b
+found-once = once-by foundOf descriptorOf found-back
+
+abbrev placeOf : Option Place → Part
+placeOf (some p) = part.Is (p .start) (p .size)
+placeOf none = part.Nothing
+
+part-back : (r : Part) → placeOf (partOf r) ≡ r
+part-back (part.Is a n) = refl
+part-back part.Nothing = refl
+
+pub part-once : (a b : Part) → partOf a ≡ partOf b → a ≡ b
+part-once = once-by partOf placeOf part-back
+
+-- ---- what holds where nothing is found, and of each that fits and begins with x, holds of what a search for x answers
+either : {A : Type 0} (P : A → Type 0) (t : Bool) (a b : A) → (t ≡ true → P a) → P b → P (pick t a b)
+either P true a b p q = p refl
+either P false a b p q = q
+
+module _ {A : Type 0} (P : A → Type 0) (s : List ℕ) (size : ℕ → ℕ) (end x : ℕ) (told : ℕ → A) (absent : A)
+    (of-absent : P absent) (of-told : (at : ℕ) → at + size at ≤ end → byteAt s at ≡ x → P (told at)) where
+  first-all : (n at : ℕ) → P (first s size n end at x told absent)
+  unfolding first ifEq
+  first-all zero at = of-absent
+  first-all (suc n) at = ⊎-elim
+      (λ h. subst P (lt-no end (at + size at) _ _ (omega arith) refl)
+      (either P (eqb (byteAt s at) x) _ _ (λ e. of-told at (omega arith) (eqb-true _ x e)) (first-all n (at + size at))))
+      (λ h. subst P (first-past s size end at x told absent _ refl (suc n) (omega arith)) of-absent)
+      (eq-zero-or-pos (at + size at - end))
+
+-- a value is one of 0 to 15
+abbrev Below : Rated → Type 0
+Below (value v) = v < 16
+Below noAdvisory = record {}
+Below regionAbsent = record {}
+Below dimensionAbsent = record {}
+
+pub rating-below : (s : List ℕ) (region dimension end from v : ℕ) → ratingIn s region dimension end from ≡ value v → v < 16
+unfolding ratingIn
+rating-below s region dimension end from v e =
+    subst Below e
+    (first-all Below s _ end _ _ noAdvisory (record {})
+    (λ a h x. first-all Below s _ _ _ _ regionAbsent (record {})
+    (λ p l y. first-all Below s _ _ _ _ dimensionAbsent (record {}) (λ q m z. omega arith) _ _)
+    _ _)
+    _ _)
+
+-- a text stands within the list
+abbrev Within : ℕ → Option Place → Type 0
+Within end (some t) = t .start + t .size ≤ end
+Within end none = record {}
+
+within : (s : List ℕ) (end p : ℕ) → p + regionSize s p ≤ end → Within end (textAt s p)
+unfolding regionSize
+within s end p h = omega arith
+
+pub text-within : (s : List ℕ) (region end from : ℕ) (t : Place) → textIn s region end from ≡ some t → t .start + t .size ≤ end
+unfolding textIn
+text-within s region end from t e =
+    subst (Within end) e
+    (first-all (Within end) s _ end _ _ none (record {})
+    (λ a h x. first-all (Within end) s _ _ _ _ none (record {}) (λ p l y. within s end p (omega arith)) _ _)
+    _ _)
+
+-- ---- a number that no byte has is absent
+module _ (s : List ℕ) (bytes : Bytes s) where
+  first-wide : {A : Type 0} (size : ℕ → ℕ) (n end at x : ℕ) (told : ℕ → A) (absent : A) → 255 < x
+      → first s size n end at x told absent ≡ absent
+  first-wide size n end at x told absent h =
+      first-all (λ r. r ≡ absent) s size end x told absent refl (λ a l e. absurd (omega (arith, bytes a))) n at
+
+  pub wide-region : (region dimension end from : ℕ) → 255 < region
+      → ratingIn s region dimension end from ≡ advisoryIn s end from (λ a. regionAbsent) noAdvisory
+  unfolding ratingIn
+  wide-region region dimension end from h =
+      λ i. advisoryIn s end from
+      (λ a. first-wide (regionSize s) (byteAt s (a + 2) % 64) (a + descriptorSize s a) (a + 3) region (ratedByRegion s dimension) regionAbsent h i)
+      noAdvisory
+
+  pub wide-dimension : (region dimension end from : ℕ) → 255 < dimension
+      → ratingIn s region dimension end from ≡ advisoryIn s end from (λ a. regionIn s region a (λ p. dimensionAbsent) regionAbsent) noAdvisory
+  unfolding ratingIn
+  wide-dimension region dimension end from h =
+      λ i. advisoryIn s end from
+      (λ a. regionIn s region a
+      (λ p. first-wide (λ q. 2) (byteAt s (p + 1)) (p + regionSize s p) (p + 2) dimension (λ q. value (byteAt s (q + 1) % 16)) dimensionAbsent h i)
+      regionAbsent)
+      noAdvisory

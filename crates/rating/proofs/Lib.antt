@@ -1,0 +1,4 @@
+pub mod FirstLaws
+pub mod DescriptorLaws
+pub mod AnswerLaws
+pub mod MatchLaws

@@ -1,0 +1,106 @@
+-- Document 01, "Three sorts of blank": the rating question, and what else is asked of a descriptor list. Places are offsets of
+-- the whole section s; the list stands from `from` to `end`.
+use Prim.Native.Nat.{ℕ, zero, suc, _+_, _*_, _%_}
+use mathlib.Core.List.{List}
+use mathlib.Core.Option.{Option, none, some}
+use Rattle.bytes_at.specs.Fields.{byteAt}
+use Rattle.bytes_at.specs.Choices.{ifLt, ifEq}
+use Rattle.descriptor.specs.Descriptors.{contentAdvisory}
+use Rattle.rating.specs.declared.Rating.{Rating}
+use Rattle.rating.specs.declared.Rating.the-variants.{NoAdvisory, RegionAbsent, DimensionAbsent, Value}
+use Rattle.rating.specs.declared.Found.{Found}
+use Rattle.rating.specs.declared.Found.the-variants as found
+use Rattle.rating.specs.declared.Part.{Part}
+use Rattle.rating.specs.declared.Part.the-variants as part
+
+-- a rating question answers: no advisory, region absent, dimension absent, or a value
+pub data Rated : Type 0 where
+  noAdvisory : Rated
+  regionAbsent : Rated
+  dimensionAbsent : Rated
+  value : ℕ → Rated
+
+abbrev pub ratedOf : Rating → Rated
+ratedOf NoAdvisory = noAdvisory
+ratedOf RegionAbsent = regionAbsent
+ratedOf DimensionAbsent = dimensionAbsent
+ratedOf (Value v) = value v
+
+-- a descriptor's tag, and where its content stands
+pub record Descriptor : Type 0 where
+  pub tag : ℕ
+  pub start : ℕ
+  pub size : ℕ
+
+abbrev pub foundOf : Found → Option Descriptor
+foundOf (found.Is t a n) = some (record { tag = t; start = a; size = n })
+foundOf found.Nothing = none
+
+-- where a text stands
+pub record Place : Type 0 where
+  pub start : ℕ
+  pub size : ℕ
+
+abbrev pub partOf : Part → Option Place
+partOf (part.Is a n) = some (record { start = a; size = n })
+partOf part.Nothing = none
+
+-- a descriptor: tag 8, length 8, that many bytes
+unfoldable pub descriptorSize : List ℕ → ℕ → ℕ
+descriptorSize s at = 2 + byteAt s (at + 1)
+
+-- the start of a region: region 8, dimension count 8, its dimensions of 16 bits each
+unfoldable pub ratedSize : List ℕ → ℕ → ℕ
+ratedSize s at = 2 + 2 * byteAt s (at + 1)
+
+-- a region: that, and its text with an 8-bit length
+unfoldable pub regionSize : List ℕ → ℕ → ℕ
+regionSize s at = ratedSize s at + 1 + byteAt s (at + ratedSize s at)
+
+-- The first match in byte order decides: n things stand one after the other from `at`, each of its size and within `end`. The
+-- first of them whose first byte is x is told by its place; where none is, the answer is `absent`.
+unfoldable pub first : {A : Type 0} → List ℕ → (ℕ → ℕ) → ℕ → ℕ → ℕ → ℕ → (ℕ → A) → A → A
+first s size zero end at x told absent = absent
+first s size (suc n) end at x told absent =
+    ifLt end (at + size at) absent
+    (ifEq (byteAt s at) x (told at) (first s size n end (at + size at) x told absent))
+
+-- the first 0x87 descriptor; `end` bounds their number, since each takes two bytes or more
+abbrev pub advisoryIn : {A : Type 0} → List ℕ → ℕ → ℕ → (ℕ → A) → A → A
+advisoryIn s end from = first s (descriptorSize s) end end from contentAdvisory
+
+-- the first such region of the content advisory at a: r 2, region count 6, and the regions
+abbrev pub regionIn : {A : Type 0} → List ℕ → ℕ → ℕ → (ℕ → A) → A → A
+regionIn s region a = first s (regionSize s) (byteAt s (a + 2) % 64) (a + descriptorSize s a) (a + 3) region
+
+-- the first such dimension of the region at p: dimension 8, r 4, value 4
+abbrev pub dimensionIn : {A : Type 0} → List ℕ → ℕ → ℕ → (ℕ → A) → A → A
+dimensionIn s dimension p = first s (λ q. 2) (byteAt s (p + 1)) (p + regionSize s p) (p + 2) dimension
+
+-- what a region at p, and what an advisory at a, answer to a rating question
+abbrev pub ratedByRegion : List ℕ → ℕ → ℕ → Rated
+ratedByRegion s dimension p = dimensionIn s dimension p (λ q. value (byteAt s (q + 1) % 16)) dimensionAbsent
+
+abbrev pub ratedByAdvisory : List ℕ → ℕ → ℕ → ℕ → Rated
+ratedByAdvisory s region dimension a = regionIn s region a (ratedByRegion s dimension) regionAbsent
+
+-- the answer of a rating question
+unfoldable pub ratingIn : List ℕ → ℕ → ℕ → ℕ → ℕ → Rated
+ratingIn s region dimension end from = advisoryIn s end from (ratedByAdvisory s region dimension) noAdvisory
+
+-- the text of the region at p
+abbrev pub textAt : List ℕ → ℕ → Option Place
+textAt s p = some (record { start = p + ratedSize s p + 1; size = byteAt s (p + ratedSize s p) })
+
+-- the text of the first such region in the first content advisory
+unfoldable pub textIn : List ℕ → ℕ → ℕ → ℕ → Option Place
+textIn s region end from = advisoryIn s end from (λ a. regionIn s region a (textAt s) none) none
+
+-- the descriptor at a place
+abbrev pub descriptorAt : List ℕ → ℕ → Descriptor
+descriptorAt s at = record { tag = byteAt s at; start = at + 2; size = byteAt s (at + 1) }
+
+-- descriptor number k, counted from 0; one that does not lie within the list is none
+unfoldable pub descriptorIn : List ℕ → ℕ → ℕ → ℕ → Option Descriptor
+descriptorIn s end zero at = ifLt end (at + descriptorSize s at) none (some (descriptorAt s at))
+descriptorIn s end (suc k) at = ifLt end (at + descriptorSize s at) none (descriptorIn s end k (at + descriptorSize s at))

@@ -1,0 +1,5 @@
+pub mod CallLaws
+pub mod EditLaws
+pub mod PlaceLaws
+pub mod JudgeLaws
+pub mod TakingLaws

@@ -1,0 +1,47 @@
+-- `fetch_from` meets its contract.
+use Prim.Native.Nat.{_*_, ℕ}
+use mathlib.Core.Path.{_∙_, ap, ap₂, refl}
+use borrow.Author.Needs.{needs}
+use Rattle.shelf_state.proofs.LoopLaws.{any-no, any-yes}
+use Rattle.shelf_state.specs.Records.{placeAt}
+use Rattle.shelf.proofs.CallLaws.{go-on, stop}
+use Rattle.shelf.specs.Calls.{answered, fetchedFrom}
+use Rattle.shelf.proofs.calls.fetch_from.Statement.{statement}
+use Rattle.shelf.proofs.calls.fetch_from.Tie as tie
+
+place-of-requires : tie.Need-place-of-requires
+place-of-requires c κs = search needs
+
+returns : tie.Need-returns
+unfolding fetchedFrom
+returns c = stop _ _ _ _ (any-no _ _ (c .before .place-of .ensures) (c .if1 .taken)) refl
+
+mul-p : tie.Need-mul-p
+mul-p c = search needs
+
+element-copy-out-p : tie.Need-element-copy-out-p
+element-copy-out-p c = search needs
+
+mul-t13 : tie.Need-mul-t13
+mul-t13 c = search needs
+
+wide-word-requires : tie.Need-wide-word-requires
+wide-word-requires c κs = search needs
+
+returns-2 : tie.Need-returns-2
+unfolding fetchedFrom
+returns-2 c = go-on _ _ _ _ (any-yes _ _ (c .before .before .before .place-of .ensures) (c .before .before .if1 .left))
+    (ap₂ (λ (i l : ℕ). answered (record { start = i * 4096; length = l }) (c .before .before .before .before .args .t1)) (c .before .before .before .place-of .ensures)
+    (c .wide-word .ensures .0 ∙ ap (λ (i : ℕ). placeAt (c .before .before .before .before .args .t1) i .length) (c .before .before .before .place-of .ensures)))
+
+pub fetch-from-spec : {M : Type 1} → statement M
+fetch-from-spec =
+    tie.close
+    (tie.spec
+    place-of-requires
+    returns
+    mul-p
+    element-copy-out-p
+    mul-t13
+    wide-word-requires
+    returns-2)

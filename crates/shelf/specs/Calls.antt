@@ -1,0 +1,83 @@
+-- Document 01, "The shelf" and the orders of "Refusal numbers": what each call answers, and the shelf after it.
+use Prim.Native.Nat.{ℕ, _+_, _*_}
+use mathlib.Core.Bool.{Bool, true, false, not}
+use lib.Dec.{leb}
+use Rattle.bytes_at.specs.Choices.{pick, ifEq}
+use Rattle.refusal.specs.Outcomes.{refused, result}
+use Rattle.shelf_state.specs.Loops.{any, count}
+use Rattle.shelf_state.specs.Records.{blankWatch, watchAt, placeAt, keyOf, watched, watchOf, freeRecord, isHeld, placeOf, setWatch, dropped, emptyShelf}
+use Rattle.shelf_state.specs.Rules.{promised, inRange, sizesInRange, obeys}
+use Rattle.shelf_state.specs.declared.records.Asked.{Asked}
+use Rattle.shelf_state.specs.declared.records.Watch.{Watch}
+use Rattle.shelf_state.specs.declared.records.Shelf.{Shelf}
+use Rattle.shelf.specs.Answers.{After, Status, unheard, part, complete, Bytes}
+
+-- ---- how a call ends
+-- by a refusal, the shelf as it was; by its values and a shelf
+abbrev pub refusedBy : {A : Type 0} → ℕ → Shelf → After A
+refusedBy n s = record { outcome = refused n; shelf = s }
+
+abbrev pub answered : {A : Type 0} → A → Shelf → After A
+answered x s = record { outcome = result x; shelf = s }
+
+-- a refusal is given exactly where its test fails and none before it did
+unfoldable pub orRefuse : {A : Type 0} → ℕ → Shelf → Bool → After A → After A
+orRefuse n s true r = r
+orRefuse n s false r = refusedBy n s
+
+-- ---- an empty shelf of these sizes; where they are out of range, one of no size, which obeys no rules
+unfoldable pub made : ℕ → ℕ → After (Unit {0})
+made places records = orRefuse 14 (emptyShelf 0 0) (sizesInRange places records) (answered tt (emptyShelf places records))
+
+-- ---- opening: 14, 15, 19, 20, 21. The lowest free record is taken
+abbrev pub fresh : Asked → ℕ → Watch
+fresh a q = record { live = true; key = keyOf a; quota = q; heard = false; version = 0; last = 0 }
+
+unfoldable pub openedInRange : Shelf → Asked → ℕ → After (Unit {0})
+openedInRange s a q =
+    orRefuse 19 s (not (watched s a))
+    (orRefuse 20 s (any (s .records) (λ i. not (watchAt s i .live)))
+    (orRefuse 21 s (leb (promised s + q) (s .count))
+    (answered tt (setWatch s (freeRecord s) (fresh a q)))))
+
+unfoldable pub opened : Shelf → ℕ → Asked → ℕ → After (Unit {0})
+opened s area a q =
+    orRefuse 14 s (obeys s area)
+    (orRefuse 15 s (inRange a q)
+    (openedInRange s a q))
+
+-- ---- closing: 14, 17. The watch's places are freed
+unfoldable pub closed : Shelf → ℕ → Asked → After (Unit {0})
+closed s area a =
+    orRefuse 14 s (obeys s area)
+    (orRefuse 17 s (watched s a)
+    (answered tt (setWatch (dropped s (watchOf s a)) (watchOf s a) blankWatch)))
+
+-- ---- status: 14, 17
+-- c is how many numbers from 0 to last are held, n is last + 1
+unfoldable pub heldNumbers : Shelf → ℕ → ℕ
+heldNumbers s w = count (watchAt s w .last + 1) (λ m. isHeld s w m)
+
+unfoldable pub countOf : ℕ → ℕ → Status
+countOf c n = ifEq c n (complete n) (part c n)
+
+unfoldable pub statusOf : Shelf → ℕ → Status
+statusOf s w = pick (watchAt s w .heard) (countOf (heldNumbers s w) (watchAt s w .last + 1)) unheard
+
+unfoldable pub statusAfter : Shelf → ℕ → Asked → After Status
+statusAfter s area a =
+    orRefuse 14 s (obeys s area)
+    (orRefuse 17 s (watched s a)
+    (answered (statusOf s (watchOf s a)) s))
+
+-- ---- fetching: 14, 17, 22
+unfoldable pub fetchedFrom : Shelf → ℕ → ℕ → After Bytes
+fetchedFrom s w m =
+    orRefuse 22 s (isHeld s w m)
+    (answered (record { start = placeOf s w m * 4096; length = placeAt s (placeOf s w m) .length }) s)
+
+unfoldable pub fetched : Shelf → ℕ → Asked → ℕ → After Bytes
+fetched s area a m =
+    orRefuse 14 s (obeys s area)
+    (orRefuse 17 s (watched s a)
+    (fetchedFrom s (watchOf s a) m))

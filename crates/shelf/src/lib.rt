@@ -1,0 +1,17 @@
+// The shelf: watches are opened and closed, asked for their status and for sections, and sections are delivered.
+mod answers;
+mod calls;
+mod delivery;
+
+pub use answers::AfterChange;
+pub use answers::AfterFetch;
+pub use answers::AfterStatus;
+pub use answers::Change;
+pub use answers::Kept;
+pub use answers::Progress;
+pub use calls::close;
+pub use calls::empty;
+pub use calls::fetch;
+pub use calls::open;
+pub use calls::status;
+pub use delivery::deliver;

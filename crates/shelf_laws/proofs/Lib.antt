@@ -1,0 +1,9 @@
+pub mod AreaLaws
+pub mod ViewLaws
+pub mod EmptyLaws
+pub mod OpenLaws
+pub mod CloseLaws
+pub mod AnswerLaws
+pub mod KeptLaws
+pub mod DeliverLaws
+pub mod StoringLaws

@@ -1,0 +1,7 @@
+pub mod LoopLaws
+pub mod CountLaws
+pub mod RecordLaws
+pub mod RuleLaws
+pub mod FlagLaws
+pub mod WatchLaws
+pub mod DropLaws

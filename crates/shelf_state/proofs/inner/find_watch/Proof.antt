@@ -1,0 +1,60 @@
+-- `find_watch` meets its contract: no watch before the one met has the key.
+use Prim.Native.Nat.{_-_, _<_, _≤_, ℕ}
+use mathlib.Core.Path.{_∙_, _≡_, sym}
+use mathlib.Core.Bool.{false}
+use native.Mathlib.Omega.{arith}
+use borrow.Author.Count.{below-more, below-none}
+use borrow.Author.Needs.{needs}
+use Rattle.shelf_state.proofs.LoopLaws.{first-at, first-none}
+use Rattle.shelf_state.specs.Records.{isOf, watchAt}
+use Rattle.shelf_state.proofs.inner.find_watch.Statement.{statement}
+use Rattle.shelf_state.proofs.inner.find_watch.Tie as tie
+
+abbrev Inv-loop : tie.InvT-loop
+Inv-loop n a s i₀ i = (i ≤ n) × ((j : ℕ) → j < i → isOf (watchAt s j) a ≡ false)
+
+abbrev μ-loop : tie.MeasureT-loop
+μ-loop n a s i₀ i = n - i
+
+loop-holds : tie.Need-loop-holds Inv-loop μ-loop
+loop-holds c = (search needs, below-none _)
+
+mul-w : tie.Need-mul-w Inv-loop μ-loop
+mul-w c = search needs
+
+element-copy-out-w : tie.Need-element-copy-out-w Inv-loop μ-loop
+element-copy-out-w c = search needs
+
+is-of-requires : tie.Need-is-of-requires Inv-loop μ-loop
+is-of-requires c κs = search needs
+
+returns : tie.Need-returns Inv-loop μ-loop
+returns c = sym (first-at _ _ _ (c .before .before .before .loop-test .taken) (c .before .before .before .before .loop .inv .1) (sym (c .before .is-of .ensures) ∙ c .if1 .taken))
+
+add-i : tie.Need-add-i Inv-loop μ-loop
+add-i c = search needs
+
+loop-less : tie.Need-loop-less Inv-loop μ-loop
+loop-less c = search needs
+
+loop-again : tie.Need-loop-again Inv-loop μ-loop
+loop-again c = (search needs, below-more _ _ (c .before .before .before .before .loop .inv .1) (sym (c .before .is-of .ensures) ∙ c .if1 .left))
+
+returns-2 : tie.Need-returns-2 Inv-loop μ-loop
+returns-2 c = sym (first-none _ _ (λ k h. c .before .loop .inv .1 k (omega arith)))
+
+pub find-watch-spec : {M : Type 1} → statement M
+find-watch-spec =
+    tie.close
+    (tie.spec
+    Inv-loop
+    μ-loop
+    loop-holds
+    mul-w
+    element-copy-out-w
+    is-of-requires
+    returns
+    add-i
+    loop-less
+    loop-again
+    returns-2)

@@ -1,0 +1,56 @@
+-- `free_place` meets its contract: every place before the one met is taken.
+use Prim.Native.Nat.{_-_, _<_, _≤_, ℕ}
+use mathlib.Core.Path.{_≡_, ap, sym}
+use mathlib.Core.Bool.{false, not}
+use native.Mathlib.Omega.{arith}
+use borrow.Author.Count.{below-more, below-none}
+use borrow.Author.Needs.{needs}
+use Rattle.shelf_state.proofs.LoopLaws.{first-at, first-none}
+use Rattle.shelf_state.specs.Records.{placeAt}
+use Rattle.shelf_state.proofs.inner.free_place.Statement.{statement}
+use Rattle.shelf_state.proofs.inner.free_place.Tie as tie
+
+abbrev Inv-loop : tie.InvT-loop
+Inv-loop s n i₀ i = (i ≤ n) × ((j : ℕ) → j < i → not (placeAt s j .used) ≡ false)
+
+abbrev μ-loop : tie.MeasureT-loop
+μ-loop s n i₀ i = n - i
+
+loop-holds : tie.Need-loop-holds Inv-loop μ-loop
+loop-holds c = (search needs, below-none _)
+
+mul-p : tie.Need-mul-p Inv-loop μ-loop
+mul-p c = search needs
+
+element-copy-out-p : tie.Need-element-copy-out-p Inv-loop μ-loop
+element-copy-out-p c = search needs
+
+add-i : tie.Need-add-i Inv-loop μ-loop
+add-i c = search needs
+
+loop-less : tie.Need-loop-less Inv-loop μ-loop
+loop-less c = search needs
+
+loop-again : tie.Need-loop-again Inv-loop μ-loop
+loop-again c = (search needs, below-more _ _ (c .before .before .before .loop .inv .1) (ap not (c .if1 .taken)))
+
+returns : tie.Need-returns Inv-loop μ-loop
+returns c = sym (first-at _ _ _ (c .before .before .loop-test .taken) (c .before .before .before .loop .inv .1) (ap not (c .if1 .left)))
+
+returns-2 : tie.Need-returns-2 Inv-loop μ-loop
+returns-2 c = sym (first-none _ _ (λ k h. c .before .loop .inv .1 k (omega arith)))
+
+pub free-place-spec : {M : Type 1} → statement M
+free-place-spec =
+    tie.close
+    (tie.spec
+    Inv-loop
+    μ-loop
+    loop-holds
+    mul-p
+    element-copy-out-p
+    add-i
+    loop-less
+    loop-again
+    returns
+    returns-2)

@@ -1,0 +1,60 @@
+-- `place_of` meets its contract: no place before the one met has the section.
+use Prim.Native.Nat.{_-_, _<_, _≤_, ℕ}
+use mathlib.Core.Path.{_∙_, _≡_, sym}
+use mathlib.Core.Bool.{false}
+use native.Mathlib.Omega.{arith}
+use borrow.Author.Count.{below-more, below-none}
+use borrow.Author.Needs.{needs}
+use Rattle.shelf_state.proofs.LoopLaws.{first-at, first-none}
+use Rattle.shelf_state.specs.Records.{holds, placeAt}
+use Rattle.shelf_state.proofs.inner.place_of.Statement.{statement}
+use Rattle.shelf_state.proofs.inner.place_of.Tie as tie
+
+abbrev Inv-loop : tie.InvT-loop
+Inv-loop w number s n i₀ i = (i ≤ n) × ((j : ℕ) → j < i → holds (placeAt s j) w number ≡ false)
+
+abbrev μ-loop : tie.MeasureT-loop
+μ-loop w number s n i₀ i = n - i
+
+loop-holds : tie.Need-loop-holds Inv-loop μ-loop
+loop-holds c = (search needs, below-none _)
+
+mul-p : tie.Need-mul-p Inv-loop μ-loop
+mul-p c = search needs
+
+element-copy-out-p : tie.Need-element-copy-out-p Inv-loop μ-loop
+element-copy-out-p c = search needs
+
+holds-section-requires : tie.Need-holds-section-requires Inv-loop μ-loop
+holds-section-requires c κs = search needs
+
+returns : tie.Need-returns Inv-loop μ-loop
+returns c = sym (first-at _ _ _ (c .before .before .before .loop-test .taken) (c .before .before .before .before .loop .inv .1) (sym (c .before .holds-section .ensures) ∙ c .if1 .taken))
+
+add-i : tie.Need-add-i Inv-loop μ-loop
+add-i c = search needs
+
+loop-less : tie.Need-loop-less Inv-loop μ-loop
+loop-less c = search needs
+
+loop-again : tie.Need-loop-again Inv-loop μ-loop
+loop-again c = (search needs, below-more _ _ (c .before .before .before .before .loop .inv .1) (sym (c .before .holds-section .ensures) ∙ c .if1 .left))
+
+returns-2 : tie.Need-returns-2 Inv-loop μ-loop
+returns-2 c = sym (first-none _ _ (λ k h. c .before .loop .inv .1 k (omega arith)))
+
+pub place-of-spec : {M : Type 1} → statement M
+place-of-spec =
+    tie.close
+    (tie.spec
+    Inv-loop
+    μ-loop
+    loop-holds
+    mul-p
+    element-copy-out-p
+    holds-section-requires
+    returns
+    add-i
+    loop-less
+    loop-again
+    returns-2)

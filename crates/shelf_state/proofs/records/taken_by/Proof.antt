@@ -1,0 +1,20 @@
+-- `taken_by` meets its contract.
+use borrow.Author.Needs.{needs}
+use Rattle.shelf_state.specs.Loops.{_&_}
+use Rattle.shelf_state.specs.Records.{takenBy}
+use Rattle.shelf_state.proofs.records.taken_by.Statement.{statement}
+use Rattle.shelf_state.proofs.records.taken_by.Tie as tie
+
+wide-requires : tie.Need-wide-requires
+wide-requires c κs = search needs
+
+returns : tie.Need-returns
+unfolding _&_ takenBy
+returns c = rw (c .before .if1 .taken, ← c .wide .ensures .0)
+
+returns-2 : tie.Need-returns-2
+unfolding _&_ takenBy
+returns-2 c = rw (c .if1 .left)
+
+pub taken-by-spec : {M : Type 1} → statement M
+taken-by-spec = tie.close (tie.spec wide-requires returns returns-2)

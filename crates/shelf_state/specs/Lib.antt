@@ -1,0 +1,4 @@
+pub mod Loops
+pub mod Records
+pub mod Rules
+pub mod Tests

@@ -1,0 +1,6 @@
+pub mod OutcomeLaws
+pub mod UnitLaws
+pub mod JoinLaws
+pub mod TextLaws
+pub mod SoundLaws
+pub mod Examples

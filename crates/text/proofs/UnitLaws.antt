@@ -1,0 +1,138 @@
+-- One segment: the units of plain bytes and of compressed ones, and what is answered and stored of them.
+use mathlib.Core.Path.{_≡_, refl, sym, ap, _∙_}
+use mathlib.Core.Bool.{Bool, true, false}
+use mathlib.Core.List.{List, [], _∷_}
+use Prim.Native.Nat.{ℕ, zero, suc, _+_, _*_, _/_, _%_, _<_, _≤_}
+use native.Mathlib.Omega.{arith}
+use lib.ListN.{length, getD, take, drop, length-take}
+use lib.Seq.{sets, take-all}
+use Rattle.bytes_at.specs.Fields.{byteAt}
+use Rattle.bytes_at.proofs.ChoiceLaws.{eq-yes, eq-no}
+use Rattle.refusal.specs.Numbers.{numberOf}
+use Rattle.refusal.specs.Outcomes.{Outcome, refused, result}
+use Rattle.refusal.specs.declared.Refusal.{Refusal}
+use Rattle.annex_c.specs.Codes.{Reading}
+use Rattle.segment.specs.declared.Judged.{Judged}
+use Rattle.segment.specs.declared.Judged.the-variants.{Units, Refused}
+use Rattle.segment.specs.Bits.{bits}
+use Rattle.segment.specs.Text.{Text, done, unit, units, judged, written}
+use Rattle.segment.specs.Text as texts
+use Rattle.segment.specs.Segment.{segmentText}
+use Rattle.segment.proofs.BitLaws.{length-bits}
+use Rattle.segment.proofs.TextLaws.{Fits, fits-count, written-units, written-refused}
+use Rattle.segment.proofs.SegmentLaws.{coded-fits}
+use Rattle.text.specs.declared.answer.Answer.the-variants as answers
+use Rattle.text.specs.declared.segments.Way.{Way}
+use Rattle.text.specs.Segments.{wayOf, pairs, utf16Units, textUnits, unitsBy, segmentUnits}
+use Rattle.text.specs.Inner.{plain, stored, Wrote}
+use Rattle.text.proofs.OutcomeLaws.{same-result, not-both, counted-result, counted-refused}
+
+-- ---- pairs of bytes
+pub pairs-length : (s : List ℕ) → length (pairs s) ≡ length s / 2
+unfolding pairs
+pairs-length [] = refl
+pairs-length (a ∷ []) = refl
+pairs-length (a ∷ b ∷ s) = omega (arith, pairs-length s)
+
+pub pairs-at : (s : List ℕ) (i : ℕ) → 2 * i + 1 < length s → getD (pairs s) i 0 ≡ 256 * getD s (2 * i) 0 + getD s (2 * i + 1) 0
+unfolding pairs
+pairs-at [] i h = absurd (omega arith)
+pairs-at (a ∷ []) i h = absurd (omega arith)
+pairs-at (a ∷ b ∷ s) zero h = refl
+pairs-at (a ∷ b ∷ s) (suc i) h =
+    let e : 2 * suc i ≡ suc (suc (2 * i)) = omega arith in
+    let f : 2 * suc i + 1 ≡ suc (suc (2 * i + 1)) = omega arith in
+    rw (f, e) (pairs-at s i (omega arith))
+
+pub utf16-even : (s : List ℕ) → length s % 2 ≡ 0 → utf16Units s ≡ result (pairs s)
+unfolding utf16Units
+utf16-even s h = sym (eq-yes (length s % 2) 0 (result (pairs s)) (refused 11) h refl)
+
+pub utf16-odd : (s : List ℕ) → (length s % 2 ≡ 0 → ⊥) → utf16Units s ≡ refused 11
+unfolding utf16Units
+utf16-odd s h = sym (eq-no (length s % 2) 0 (result (pairs s)) (refused 11) h refl)
+
+-- ---- what is answered and stored
+pub wrote-units : (x : Outcome (List ℕ)) (l : List ℕ) (n k : ℕ) (us e : List ℕ) → x ≡ result us → k ≡ length us → length us ≤ 2040
+    → e ≡ sets l n us → Wrote x l n (answers.Value k) e
+unfolding stored
+wrote-units x l n k us e q c m w = record {
+  answers = rw (q, c, counted-result us);
+  stores = rw q w;
+  few = λ vs v. rw (same-result us vs (sym q ∙ v)) at m;
+}
+
+pub wrote-refused : (x : Outcome (List ℕ)) (l : List ℕ) (n : ℕ) (r : Refusal) (e : List ℕ) → x ≡ refused (numberOf r) → e ≡ l
+    → Wrote x l n (answers.Refused r) e
+unfolding stored
+wrote-refused x l n r e q w = record {
+  answers = rw (q, counted-refused (numberOf r));
+  stores = rw q w;
+  few = λ vs v. not-both (numberOf r) vs (sym q ∙ v);
+}
+
+-- the first k of k units are they
+pub all-of : (l us : List ℕ) (n k : ℕ) (e : List ℕ) → length us ≤ k → e ≡ sets l n (take k us) → e ≡ sets l n us
+all-of l us n k e h w = rw (take-all k us h) at w
+
+-- ---- compressed segments
+judged-count : (n k : ℕ) (x : Text) → judged n x ≡ Units k → k ≡ n + length (units x)
+unfolding judged units
+judged-count n k done e = let q : n ≡ k = cc in omega arith
+judged-count n k (texts.refused j) e = let z : _≡_ {A = ℕ} 0 1 = cc in absurd (omega arith)
+judged-count n k (unit u x) e = omega (arith, judged-count (n + 1) k x e)
+
+pub judged-refusal : (m n k : ℕ) (x : Text) → Fits m x → judged n x ≡ Refused k → k ≡ 11
+unfolding judged
+judged-refusal m n k done f e = let z : _≡_ {A = ℕ} 0 1 = cc in absurd (omega arith)
+judged-refusal m n k (texts.refused j) f e = let q : j ≡ k = cc in omega arith
+judged-refusal zero n k (unit u x) f e = absurd f
+judged-refusal (suc m) n k (unit u x) f e = judged-refusal m (n + 1) k x f e
+
+module _ (read : ℕ → List ℕ → Reading) (s : List ℕ) (short : length s ≤ 255) (l e : List ℕ) (n k : ℕ) (j : Judged)
+    (a : j ≡ judged 0 (segmentText read s)) (w : e ≡ written l n (segmentText read s)) where
+  fits : Fits (length (bits s)) (segmentText read s)
+  unfolding segmentText
+  fits = coded-fits read (length (bits s)) 0 (bits s)
+
+  pub wrote-text : j ≡ Units k → Wrote (textUnits (segmentText read s)) l n (answers.Value k) e
+  unfolding textUnits
+  wrote-text q =
+      let d : judged 0 (segmentText read s) ≡ Units k = sym a ∙ q in
+      let b : length (units (segmentText read s)) ≤ 2040 = omega (arith, fits-count (length (bits s)) (segmentText read s) fits, length-bits s) in
+      wrote-units (textUnits (segmentText read s)) l n k (units (segmentText read s)) e (rw (textUnits, d))
+      (omega (arith, judged-count 0 k (segmentText read s) d)) b (w ∙ written-units l n k (segmentText read s) d)
+
+  pub wrote-broken : (r : Refusal) → numberOf r ≡ 11 → j ≡ Refused k → Wrote (textUnits (segmentText read s)) l n (answers.Refused r) e
+  unfolding textUnits
+  wrote-broken r v q =
+      let d : judged 0 (segmentText read s) ≡ Refused k = sym a ∙ q in
+      let b : k ≡ numberOf r = judged-refusal (length (bits s)) 0 k (segmentText read s) fits d ∙ sym v in
+      wrote-refused (textUnits (segmentText read s)) l n r e (rw (textUnits, d, b)) (w ∙ written-refused l n k (segmentText read s) d)
+
+-- ---- plain bytes, one or two a unit
+module _ (wide : Bool) (s : List ℕ) (i : ℕ) (h : i < length (plain wide s)) where
+  pub pair-there : wide ≡ true → 2 * i + 1 < length s
+  unfolding plain
+  pair-there e = omega (arith, pairs-length s, rw e at h)
+
+  pub pair-at : wide ≡ true → 256 * getD s (2 * i) 0 + getD s (2 * i + 1) 0 ≡ getD (plain wide s) i 0
+  unfolding plain
+  pair-at e = rw e (sym (pairs-at s i (pair-there e)))
+
+  pub byte-there : wide ≡ false → i < length s
+  unfolding plain
+  byte-there e = rw e at h
+
+  pub byte-at : wide ≡ false → getD s i 0 ≡ getD (plain wide s) i 0
+  unfolding plain
+  byte-at e = rw e
+
+-- ---- a segment where it stands
+pub few-bytes : (s p : List ℕ) (at n : ℕ) → p ≡ take n (drop at s) → n < 256 → length p ≤ 255
+few-bytes s p at n e h = omega (arith, ap length e ∙ length-take n (drop at s))
+
+pub units-at : (s p : List ℕ) (at c m n : ℕ) (w : Way) → c ≡ byteAt s at → m ≡ byteAt s (at + 1) → n ≡ byteAt s (at + 2) → w ≡ wayOf c m
+    → p ≡ take n (drop (at + 3) s) → unitsBy w p ≡ segmentUnits s at
+unfolding segmentUnits
+units-at s p at c m n w a b d e f = rw (e, f, a, b, d)

@@ -1,0 +1,44 @@
+-- `text_vectors::inside` is safe and ends.
+use lib.Seq.{length-take-le}
+use native.Mathlib.Omega.{arith}
+use mathlib.Core.Path.{sym}
+use borrow.Author.Needs.{needs}
+use Rattle.text_vectors.proofs.inside.Statement.{statement}
+use Rattle.text_vectors.proofs.inside.Tie as tie
+
+slice-aggregate-write-all : tie.Need-slice-aggregate-write-all
+slice-aggregate-write-all c = search needs
+
+write-all-requires : tie.Need-write-all-requires
+write-all-requires c κs = search needs
+
+slice-relend-prefix-string-text : tie.Need-slice-relend-prefix-string-text
+slice-relend-prefix-string-text c = search needs
+
+slice-aggregate-string-text : tie.Need-slice-aggregate-string-text
+slice-aggregate-string-text c = sym (length-take-le _ _ (omega arith))
+
+string-text-requires : tie.Need-string-text-requires
+string-text-requires c κs = search needs
+
+show-requires : tie.Need-show-requires
+show-requires c κs = search needs
+
+same-length : tie.Need-same-length
+same-length c = search needs
+
+returns : tie.Need-returns
+returns c = search needs
+
+pub inside-spec : {M : Type 1} → statement M
+inside-spec =
+    tie.close
+    (tie.spec
+    slice-aggregate-write-all
+    write-all-requires
+    slice-relend-prefix-string-text
+    slice-aggregate-string-text
+    string-text-requires
+    show-requires
+    same-length
+    returns)

@@ -1,0 +1,250 @@
+#!/usr/bin/env python3
+"""Vectors of text fields: writes crates/text_vectors/stdin and stdout, or compares (--check).
+
+A reader of its own, after document 01's "Text" and its order of refusals: what is expected of the program is computed here alone.
+"""
+import random
+import struct
+
+from annex_c_coder import decode, encode, pack
+from written import written
+
+LAST = 2**64 - 1
+ROOM = 4096
+
+
+class Refused(Exception):
+    pass
+
+
+def parsed(field):
+    """[(language, [(compression, mode, bytes)])], or 9. A field of nothing has no strings."""
+    if not field:
+        return []
+    at = 0
+
+    def take(n):
+        nonlocal at
+        if at + n > len(field):
+            raise Refused(9)
+        at += n
+        return field[at - n:at]
+
+    strings = []
+    for _ in range(take(1)[0]):
+        language = int.from_bytes(take(3), "big")
+        segments = []
+        for _ in range(take(1)[0]):
+            compression, mode, size = take(3)
+            segments.append((compression, mode, take(size)))
+        strings.append((language, segments))
+    if at != len(field):
+        raise Refused(9)
+    return strings
+
+
+def string(field, k):
+    strings = parsed(field)
+    if k >= len(strings):
+        raise Refused(13)
+    return strings[k]
+
+
+def segment_units(compression, mode, data):
+    if (compression, mode) == (0, 0):
+        return list(data)
+    if (compression, mode) == (0, 0x3F):
+        if len(data) % 2:
+            raise Refused(11)
+        return [data[i] << 8 | data[i + 1] for i in range(0, len(data), 2)]
+    if mode == 0 and compression in (1, 2):
+        units = decode(compression, data)
+        if units is None:
+            raise Refused(11)
+        return units
+    raise Refused(10)
+
+
+def units(field, k):
+    out = []
+    for segment in string(field, k)[1]:
+        out += segment_units(*segment)
+    return out
+
+
+def text(field, k, room):
+    out = units(field, k)
+    if len(out) > room:
+        raise Refused(12)
+    return out
+
+
+def told(name, ask):
+    try:
+        return " %s %s" % (name, ask())
+    except Refused as r:
+        return " %s refused %d" % (name, r.args[0])
+
+
+def shown_text(field, k, room):
+    try:
+        out = text(field, k, room)
+        return " text %d changed 0:%s" % (len(out), "".join(" %d" % u for u in out))
+    except Refused as r:
+        return " text refused %d changed 0:" % r.args[0]
+
+
+def line(field, k, room):
+    out = told("strings", lambda: len(parsed(field)))
+    out += told("language", lambda: "%d segments %d" % (string(field, k)[0], len(string(field, k)[1])))
+    out += told("units", lambda: len(units(field, k)))
+    out += shown_text(field, k, room)
+    try:
+        parsed(field)
+        out += " inside" + shown_text(field, k, room)
+    except Refused:
+        pass
+    return out
+
+
+def made(*strings):
+    """A field of strings, each its segments (compression, mode, bytes); the languages are eng, spa, fre, ..."""
+    languages = [b"eng", b"spa", b"fre", b"\x00\x00\x00", b"\xff\xff\xff", b"\x80\x01\x02"]
+    out = bytes([len(strings)])
+    for i, segments in enumerate(strings):
+        out += languages[i % len(languages)] + bytes([len(segments)])
+        for compression, mode, data in segments:
+            out += bytes([compression, mode, len(data)]) + data
+    return out
+
+
+def plain(s):
+    return 0, 0, s
+
+
+def wide(s):
+    return 0, 0x3F, s.encode("utf-16-be")
+
+
+def packed(kind, s):
+    """The end has a code after few characters; the full stop is one of them in both lists."""
+    data = pack(encode(kind, s))
+    assert decode(kind, data) == list(s)
+    return kind, 0, data
+
+
+TEA = made([plain(b"Tea")])
+BROKEN = (1, 0, b"\xff\xff\xff")
+UNREAD = (3, 0, b"x")
+ODD = (0, 0x3F, b"\x00A\x00")
+THREE = made([plain(b"one")], [packed(1, b"The next"), wide("Ω")], [packed(2, b"A story.")])
+
+
+def vectors():
+    # nothing, no strings, and no strings with more bytes
+    for field in (b"", b"\x00", b"\x00\x00", b"\x00eng\x00"):
+        for k in (0, 1, LAST):
+            yield field, k, ROOM
+    # one string; one past the last; the largest number
+    for k in (0, 1, 2, 255, 256, 2**32, 2**63, LAST - 1, LAST):
+        yield TEA, k, ROOM
+    # 255 strings, of no segments and of one
+    for field in (made(*[[]] * 255), made(*[[plain(bytes([i]))] for i in range(255)])):
+        for k in (0, 1, 127, 253, 254, 255, 256, LAST):
+            yield field, k, ROOM
+    # a string of 255 segments, whose parts are empty, plain, wide and compressed
+    many = [[plain(b""), plain(b"ab"), wide("é"), packed(1, b"A.")][i % 4] for i in range(255)]
+    yield made(many), 0, ROOM
+    yield made([], many, [plain(b"z")]), 1, ROOM
+    yield made([], many, [plain(b"z")]), 2, ROOM
+    # every byte is a unit in mode 0; the highest and lowest units and lone surrogates of UTF-16 pass
+    yield made([plain(bytes(range(255)))], [plain(b"\xff\x80\x00")]), 0, ROOM
+    yield made([plain(bytes(range(255)))], [plain(b"\xff\x80\x00")]), 1, ROOM
+    for units_ in ([0xD83D, 0xDE00], [0xDE00, 0xD83D], [0xD800], [0xFEFF, 0xFFFE, 0xFFFF, 0, 1, 256, 255]):
+        yield made([(0, 0x3F, b"".join(struct.pack(">H", u) for u in units_))]), 0, ROOM
+    # UTF-16 of 0 to 5 bytes, and of 254 and 255
+    for size in (0, 1, 2, 3, 4, 5, 254, 255):
+        yield made([(0, 0x3F, b"\x12\x34" * 128)[:2] + ((b"\x12\x34" * 128)[:size],)]), 0, ROOM
+    # all of the pairs about the read ones
+    for compression in (0, 1, 2, 3, 4, 62, 63, 127, 128, 255):
+        for mode in (0, 1, 2, 3, 4, 61, 62, 63, 64, 127, 128, 191, 255):
+            for data in (b"", pack(encode(1, b"The next")), pack(encode(2, b"A.")), b"\x00\x41\x00"):
+                yield made([(compression, mode, data)]), 0, ROOM
+    # mixed pairs in one string: joined, and each compressed segment starts anew
+    mixed = [plain(b"On: "), packed(1, b"The next"), wide(" Ω😀 "), packed(2, b"A story."), packed(1, b"The next"), plain(b"")]
+    yield made(mixed), 0, ROOM
+    yield made(list(reversed(mixed))), 0, ROOM
+    yield made([packed(1, b"qu."), packed(1, b"u."), packed(2, b"qu."), packed(2, b"u.")]), 0, ROOM
+    # the first faulty segment decides, and 12 comes after
+    faulty = {"broken": BROKEN, "unread": UNREAD, "odd": ODD, "empty": (2, 0, b"")}
+    for a in faulty.values():
+        for room in (0, 1, 2, ROOM):
+            yield made([plain(b"ab"), a, plain(b"cd")]), 0, room
+            yield made([a]), 0, room
+        for b in faulty.values():
+            yield made([a, b]), 0, ROOM
+            yield made([plain(b"ab"), a, wide("cd"), b, packed(1, b"e.")]), 0, ROOM
+            # the fault of another string is not this one's
+            for k in range(4):
+                yield made([plain(b"ab")], [a], [packed(1, b"The next")], [b]), k, ROOM
+    # room: exactly enough, one short, one more, none
+    for strings in (THREE, made(mixed), TEA, made([]), made([packed(1, b"The next")])):
+        for k in range(3):
+            try:
+                size = len(units(strings, k))
+            except Refused:
+                size = 0
+            for room in {0, max(size - 1, 0), size, size + 1, ROOM}:
+                yield strings, k, room
+    # long texts, whose units are many more than their bytes
+    long = [packed(1, b"The e " * 20 + b"e.")] * 20 + [packed(2, b"the e " * 20 + b"e.")] * 10
+    size = len(units(made(long), 0))
+    for room in (size - 1, size, size + 1):
+        yield made(long), 0, room
+    # a field cut after each byte, with a byte more, and with each byte changed: 9 before 13, 10, 11 and 12
+    for field in (THREE, made([plain(b"ab"), UNREAD], [BROKEN])):
+        for size in range(len(field)):
+            for k in (0, 2, LAST):
+                yield field[:size], k, 0
+        for k in (0, 2, 3):
+            yield field + b"\x00", k, ROOM
+            yield field + TEA, k, ROOM
+        for i in range(len(field)):
+            for value in (0, 1, field[i] ^ 1, field[i] ^ 128, 255):
+                for k in (0, 1):
+                    yield field[:i] + bytes([value]) + field[i + 1:], k, ROOM
+    # chance
+    rng = random.Random(1997)
+    letters = b"etaoin shrdlu.ABCTHE'-,:;!?0123xyz~\x7f"
+    for _ in range(300):
+        strings = []
+        for _ in range(rng.randrange(1, 5)):
+            segments = []
+            for _ in range(rng.randrange(0, 5)):
+                words = bytes(rng.choice(letters) for _ in range(rng.randrange(0, 20)))
+                segments.append(rng.choice([
+                    plain(words), wide(words.decode("latin-1")), packed(1, words + b"."), packed(2, words + b"."),
+                    (rng.randrange(4), rng.choice((0, 0, 63, 255)), words)]))
+            strings.append(segments)
+        field = made(*strings)
+        k = rng.randrange(len(strings) + 1)
+        yield field, k, rng.choice((ROOM, ROOM, 5))
+    for _ in range(200):
+        yield bytes(rng.choice((0, 1, 2, 3, 4, 65, 255)) for _ in range(rng.randrange(30))), rng.randrange(3), ROOM
+
+
+def main():
+    stdin, stdout, count, read = b"", "", 0, 0
+    for field, k, room in vectors():
+        assert len(field) <= 4000 and room <= ROOM
+        stdin += struct.pack(">QHH", k, room, len(field)) + field
+        shown = line(field, k, room)
+        read += "text refused" not in shown
+        stdout += "%d%s\n" % (count, shown)
+        count += 1
+    stdout += "vectors %d\n" % count
+    written("text_vectors", stdin, stdout.encode())
+    print("%d vectors, %d of them texts, %d bytes" % (count, read, len(stdin)))
+
+
+main()

@@ -1,0 +1,13 @@
+"""What a script of vectors has made goes to its program's stdin and stdout, or is compared with them."""
+import pathlib
+import sys
+
+
+def written(crate, stdin, stdout):
+    """Writes crates/CRATE/stdin and stdout; with --check fails where those are not what was made."""
+    folder = pathlib.Path(__file__).resolve().parent.parent / "crates" / crate
+    for name, data in ("stdin", stdin), ("stdout", stdout):
+        if sys.argv[1:] != ["--check"]:
+            (folder / name).write_bytes(data)
+        elif (folder / name).read_bytes() != data:
+            sys.exit("%s is not what its script makes" % (folder / name))
