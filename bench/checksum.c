@@ -6,13 +6,14 @@
 #include <stdlib.h>
 #include <string.h>
 #include <time.h>
-#include <ucontext.h>
+
+#include "stack.h"
 
 uint32_t measured_register(const uint8_t *s, size_t n);
 
 typedef uint32_t (*Register)(const uint8_t *s, size_t n);
 
-enum { ROUNDS = 9, LONGEST = 4096, STARTS = 64, BYTES_A_ROUND = 1 << 21, STACK = 1 << 16, PAINT = 0xAA };
+enum { ROUNDS = 9, LONGEST = 4096, STARTS = 64, BYTES_A_ROUND = 1 << 21 };
 
 static uint32_t table[256];
 static uint8_t bytes[LONGEST + STARTS];
@@ -79,31 +80,9 @@ static void time_both(size_t n) {
     printf("%6zu %10.1f %10.1f %8.2f\n", n, c, ours, c / ours);
 }
 
-// The stack of a call is what it overwrites of a painted one.
-static uint8_t stack[STACK];
-static ucontext_t back, there;
-static volatile int calls_it;
 static volatile uint32_t result;
 
-static void on_the_stack(void) {
-    if (calls_it)
-        result = measured_register(bytes, LONGEST);
-}
-
-static long overwritten(int calls) {
-    calls_it = calls;
-    memset(stack, PAINT, sizeof stack);
-    getcontext(&there);
-    there.uc_stack.ss_sp = stack;
-    there.uc_stack.ss_size = sizeof stack;
-    there.uc_link = &back;
-    makecontext(&there, on_the_stack, 0);
-    swapcontext(&back, &there);
-    size_t i = 0;
-    while (i < sizeof stack && stack[i] == PAINT)
-        i++;
-    return sizeof stack - i;
-}
+static void on_the_stack(void) { result = measured_register(bytes, LONGEST); }
 
 int main(void) {
     static const size_t sizes[] = {16, 64, 100, 255, 256, 512, 1024, 4092, 4096};
@@ -113,9 +92,8 @@ int main(void) {
     printf(" bytes       C ns    ours ns  C/ours\n");
     for (size_t k = 0; k < sizeof sizes / sizeof *sizes; k++)
         time_both(sizes[k]);
-    long none = overwritten(0);
-    long with = overwritten(1);
+    long taken = stack_of(on_the_stack, STACK);
     same(c_register(bytes, LONGEST), result, LONGEST);
-    printf("stack of a call over %d bytes: %ld bytes\n", LONGEST, with - none);
+    printf("stack of a call over %d bytes: %ld bytes\n", LONGEST, taken);
     return 0;
 }

@@ -6,12 +6,13 @@
 #include <stdlib.h>
 #include <string.h>
 #include <time.h>
-#include <ucontext.h>
+
+#include "stack.h"
 
 uint32_t measured_register(const uint8_t *s, size_t n);
 uint8_t measured_judge(const uint8_t *s, size_t n);
 
-enum { ROUNDS = 9, CALLS = 400, STACK = 16 << 10, PAINT = 0xAA, LONGEST = 4096 };
+enum { ROUNDS = 9, CALLS = 400, LONGEST = 4096 };
 
 typedef struct {
     const char *name;
@@ -147,29 +148,9 @@ static void time_one(const Section *s, long taken) {
     printf("%-36s %6zu %12.0f %10.0f %8.2f %8ld\n", s->name, s->n, sum, judge, judge / sum, taken);
 }
 
-static uint8_t stack[STACK];
-static ucontext_t back, there;
 static const Section *volatile judged;
 
-static void on_the_stack(void) {
-    if (judged)
-        accepted(judged);
-}
-
-static long overwritten(const Section *s) {
-    judged = s;
-    memset(stack, PAINT, sizeof stack);
-    getcontext(&there);
-    there.uc_stack.ss_sp = stack;
-    there.uc_stack.ss_size = sizeof stack;
-    there.uc_link = &back;
-    makecontext(&there, on_the_stack, 0);
-    swapcontext(&back, &there);
-    size_t i = 0;
-    while (i < sizeof stack && stack[i] == PAINT)
-        i++;
-    return sizeof stack - i;
-}
+static void on_the_stack(void) { accepted(judged); }
 
 int main(void) {
     static Section sections[4];
@@ -178,9 +159,9 @@ int main(void) {
     smallest_events(&sections[2]);
     titled_events(&sections[3]);
     printf("%-36s %6s %12s %10s %8s %8s\n", "section", "bytes", "checksum ns", "judge ns", "ratio", "stack");
-    long none = overwritten(NULL);
     for (int k = 0; k < 4; k++) {
-        long taken = overwritten(&sections[k]) - none;
+        judged = &sections[k];
+        long taken = stack_of(on_the_stack, 16 << 10);
         time_one(&sections[k], taken);
         if (taken > 6 << 10) {
             printf("FAILED judge: a stack of %ld bytes\n", taken);

@@ -6,13 +6,13 @@
 #include <stdlib.h>
 #include <string.h>
 #include <time.h>
-#include <ucontext.h>
 
+#include "stack.h"
 #include "table.h"
 
 size_t measured_titles(const uint8_t *s, size_t n, uint16_t *out, size_t room);
 
-enum { ROUNDS = 9, TITLES = 10000, ROOM = 2040, STACK = 64 << 10, PAINT = 0xAA };
+enum { ROUNDS = 9, TITLES = 10000, ROOM = 2040 };
 
 static uint8_t bytes[1 << 20];
 static size_t size;
@@ -80,29 +80,7 @@ static double timed(size_t (*f)(const uint8_t *, size_t, uint16_t *, size_t)) {
     return best;
 }
 
-static uint8_t stack[STACK];
-static ucontext_t back, there;
-static volatile int calls_it;
-
-static void on_the_stack(void) {
-    if (calls_it)
-        measured_titles(bytes, size, room, ROOM);
-}
-
-static long overwritten(int calls) {
-    calls_it = calls;
-    memset(stack, PAINT, sizeof stack);
-    getcontext(&there);
-    there.uc_stack.ss_sp = stack;
-    there.uc_stack.ss_size = sizeof stack;
-    there.uc_link = &back;
-    makecontext(&there, on_the_stack, 0);
-    swapcontext(&back, &there);
-    size_t i = 0;
-    while (i < sizeof stack && stack[i] == PAINT)
-        i++;
-    return sizeof stack - i;
-}
+static void on_the_stack(void) { measured_titles(bytes, size, room, ROOM); }
 
 int main(int argc, char **argv) {
     FILE *f = argc == 2 ? fopen(argv[1], "rb") : NULL;
@@ -112,7 +90,6 @@ int main(int argc, char **argv) {
     fclose(f);
     double c = timed(c_titles), ours = timed(measured_titles);
     printf("%d titles, %zu bytes: C %.0f us, ours %.0f us, ours / C %.2f\n", TITLES, size, c * 1e6, ours * 1e6, ours / c);
-    long none = overwritten(0);
-    printf("stack: %ld bytes\n", overwritten(1) - none);
+    printf("stack: %ld bytes\n", stack_of(on_the_stack, STACK));
     return 0;
 }

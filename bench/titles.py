@@ -9,7 +9,7 @@ import sys
 
 HERE = os.path.dirname(os.path.abspath(__file__))
 sys.path.insert(0, os.path.join(HERE, "..", "tests"))
-from segment_vectors import encode, pack
+from annex_c_coder import encode, pack
 
 WORDS = ("The News at Ten Morning with Tea and Garden School Nature of World Weather Evening Sports "
          "Cookery Children's Hour Story Music Live from Our Town History Today Science Club").split()

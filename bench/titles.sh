@@ -4,5 +4,5 @@ set -e
 mkdir -p target/bench
 rt staticlib measured >target/bench/build.log 2>&1 || { cat target/bench/build.log; exit 1; }
 python3 bench/titles.py target/bench
-gcc -std=gnu11 -O3 -Wall -Wextra -Itarget/bench -o target/bench/titles bench/titles.c target/staticlib/libmeasured.a
+gcc -std=gnu11 -O3 -Wall -Wextra -Ibench -Itarget/bench -o target/bench/titles bench/titles.c target/staticlib/libmeasured.a
 target/bench/titles target/bench/titles.bin

@@ -5,10 +5,9 @@ Without a word: writes crates/rating_vectors/stdin and stdout. With --check: fai
 are not what this script makes. Each answer is found twice, from the lists as they were put together
 and by a reader of their bytes, and the two must agree.
 """
-import pathlib
 import random
 import struct
-import sys
+from written import written
 
 LARGEST = 2**64 - 1
 NO_ADVISORY, NO_REGION, NO_DIMENSION = "no advisory", "region absent", "dimension absent"
@@ -220,11 +219,4 @@ assert sum(question == RATING for question, *_ in vectors) >= 100
 
 records = b"".join(bytes([v[0]]) + struct.pack(">4QH", *v[1:5], len(v[5])) + v[5] for v in vectors)
 lines = ["%d %s" % (n, v[6]) for n, v in enumerate(vectors)] + ["%d vectors" % len(vectors)]
-made = {"stdin": records, "stdout": ("\n".join(lines) + "\n").encode()}
-
-folder = pathlib.Path(__file__).resolve().parent.parent / "crates" / "rating_vectors"
-for name, data in made.items():
-    if sys.argv[1:] != ["--check"]:
-        (folder / name).write_bytes(data)
-    elif (folder / name).read_bytes() != data:
-        sys.exit("%s is not what tests/rating_vectors.py makes" % (folder / name))
+written("rating_vectors", records, ("\n".join(lines) + "\n").encode())

@@ -6,13 +6,12 @@ body_vectors.py. With --check: fails where those files are not what this script 
 says which answer it is meant to have, and the rules, written out in sections.py and bodies.py,
 must agree.
 """
-import pathlib
-import sys
 
 import body_vectors
 from bodies import section_outcome
 from body_vectors import BLANK, answer, eit, ett, event, joined, list_of, mgt, rrt, string, strings, tvct
 from sections import EIT, ETT, KINDS, MGT, RRT, TVCT, section
+from written import written
 
 vectors = []  # (asked, bytes)
 
@@ -151,11 +150,4 @@ vectors += [vector[1:] for vector in body_vectors.vectors]
 records = b"".join(bytes([asked]) + len(s).to_bytes(2, "big") + s for asked, s, _ in vectors)
 lines = ["%d %s%s" % (n, *answer(said)) for n, (_, _, said) in enumerate(vectors)]
 lines.append("%d vectors" % len(vectors))
-made = {"stdin": records, "stdout": ("\n".join(lines) + "\n").encode()}
-
-folder = pathlib.Path(__file__).resolve().parent.parent / "crates" / "section_vectors"
-for name, data in made.items():
-    if sys.argv[1:] != ["--check"]:
-        (folder / name).write_bytes(data)
-    elif (folder / name).read_bytes() != data:
-        sys.exit("%s is not what tests/section_vectors.py makes" % (folder / name))
+written("section_vectors", records, ("\n".join(lines) + "\n").encode())

@@ -18,13 +18,12 @@ section. The high four bits of the op are the table's (ORDER), and its low four 
 Texts and descriptor lists are answered by the offset of their first byte and their length. A line
 of stdout is the record's number and its answer; after the answer for rows stands the whole list.
 """
-import pathlib
 import random
-import sys
 
 from bodies import section_outcome
 from body_vectors import D, TEA, TWO, descriptor, list_of, string, strings, text_of
 from sections import EIT, ETT, KINDS, MGT, RRT, TVCT, sealed, section
+from written import written
 
 ORDER = (EIT, ETT, MGT, TVCT, RRT)  # by the high four bits of an op
 ASKED = {EIT: (1, 2, 3, 4, 5, 6), ETT: (1,), MGT: (1, 2, 3), TVCT: (1, 2, 3), RRT: (1, 2, 3)}
@@ -593,17 +592,8 @@ for kind, s in SAMPLES.items():
             if other != kind:
                 add(kind, asked, SAMPLES[other], 70 if rows else 0, meant="refused 2")
 
-# ---- the tables whose readers the program has
-vectors = [vector for vector in vectors if vector[0] in (1, 2, 3, 4, 5, 6, 17)]
 records = b"".join(bytes([op]) + b"".join(n.to_bytes(8, "big") for n in asked)
                    + len(s).to_bytes(2, "big") + s for op, *asked, s, _ in vectors)
 lines = ["%d %s" % (n, vector[-1]) for n, vector in enumerate(vectors)]
 lines.append("%d vectors" % len(vectors))
-made = {"stdin": records, "stdout": ("\n".join(lines) + "\n").encode()}
-
-folder = pathlib.Path(__file__).resolve().parent.parent / "crates" / "table_vectors"
-for name, data in made.items():
-    if sys.argv[1:] != ["--check"]:
-        (folder / name).write_bytes(data)
-    elif (folder / name).read_bytes() != data:
-        sys.exit("%s is not what tests/table_vectors.py makes" % (folder / name))
+written("table_vectors", records, ("\n".join(lines) + "\n").encode())

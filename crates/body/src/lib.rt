@@ -5,3 +5,4 @@ mod entry;
 pub use bodies::whole_body;
 pub use entry::Entry;
 pub use entry::entries;
+pub use entry::values;

@@ -16,11 +16,16 @@ use Rattle.refusal.specs.Outcomes.{after}
 use Rattle.table.specs.Parts.{entryWalk}
 use Rattle.table.specs.Titles.{titleOf}
 use Rattle.table.specs.Eits as eits
+use Rattle.shelf_state.specs.Loops.{_&_, _⇒_, all, any, sum, first, each}
+use Rattle.shelf_state.specs.Records.{sameKey, isOf, takenBy, holds, release, emptyShelf}
+use Rattle.shelf_state.specs.Rules.{quotaOf, watchable, inRange, keysDiffer, quotasFit, placesOwned, noneTwice, noneAboveQuota, lastBelowQuota, unheardEmpty, lengthsFit, keysInRange, sizesInRange, sizesFit, obeys}
+use Rattle.shelf.specs.Calls.{orRefuse, made, openedInRange, opened, closed}
+use Rattle.shelf.specs.Delivery.{judged, sameEdition, edited, placeFor, takenAt, taken, byJudge, delivering, delivered}
 use Rattle.text.specs.Segments.{wayOf, pairs, utf16Units, unitsBy, segmentUnits}
 use Rattle.text.specs.Strings.{standing, stringCount, stringAt, joined, joinedUnits, stringUnits}
 use Rattle.text.specs.Texts.{ofField, fieldUnits}
 use Rattle.marked.specs.Sections.{eit11, eit4093, tvct1021, mgt14, rrt18, ett15, teaSection, noTitle, zeroTitle}
-use Rattle.marked.specs.Marked.{Mark, P1, P2, P3, P4, P5, P6, P7, P8, P9, P12, Says, marked, All}
+use Rattle.marked.specs.Marked.{Mark, P1, P2, P3, P4, P5, P6, P7, P8, P9, P10, P11, P12, P13, Says, marked, All}
 
 p1 : Says P1
 unfolding headerBy ofKind lengthTests checksumTest numberTests ifLt ifEq kindOf sealed fourBytes sectionBy verdictBy withBody bodyTest bodyOf entryOf counted then many ends skipTo bitsTo fieldsTo unto segment string structure text sizedText content descriptor descriptors sizedDescriptors eit event
@@ -58,9 +63,21 @@ p9 : Says P9
 unfolding headerBy ofKind lengthTests checksumTest numberTests ifLt ifEq kindOf sealed fourBytes sectionBy verdictBy withBody bodyTest bodyOf entryOf counted then many ends skipTo bitsTo fieldsTo unto segment string structure text sizedText content descriptor descriptors sizedDescriptors eit event
 p9 = (refl, (refl, (refl, rw (sealed-sound teaSection))))
 
+p10 : Says P10
+unfolding headerBy ofKind lengthTests checksumTest numberTests ifLt ifEq kindOf sealed fourBytes sectionBy verdictBy withBody bodyTest bodyOf entryOf counted then many ends skipTo bitsTo fieldsTo unto segment string structure text sizedText content descriptor descriptors sizedDescriptors eit event _&_ _⇒_ all any sum first each sameKey isOf takenBy holds release emptyShelf quotaOf watchable inRange keysDiffer quotasFit placesOwned noneTwice noneAboveQuota lastBelowQuota unheardEmpty lengthsFit keysInRange sizesInRange sizesFit obeys orRefuse made openedInRange opened closed judged sameEdition edited placeFor takenAt taken byJudge delivering delivered
+p10 = (rw (sealed-sound (eit11 0 0)), rw (sealed-sound (eit11 0 1)))
+
+p11 : Says P11
+unfolding ifLt ifEq kindOf _&_ _⇒_ all any sum first each sameKey isOf takenBy holds release emptyShelf quotaOf watchable inRange keysDiffer quotasFit placesOwned noneTwice noneAboveQuota lastBelowQuota unheardEmpty lengthsFit keysInRange sizesInRange sizesFit obeys orRefuse made openedInRange opened closed
+p11 = (refl, refl)
+
 p12 : Says P12
 unfolding ifLt ifEq skipTo bitsTo fieldsTo then many ends after segment string structure text wayOf pairs utf16Units unitsBy segmentUnits standing stringCount stringAt joined joinedUnits stringUnits ofField fieldUnits
 p12 = (refl, refl)
 
+p13 : Says P13
+unfolding headerBy ofKind lengthTests checksumTest numberTests ifLt ifEq kindOf sealed fourBytes sectionBy verdictBy withBody bodyTest bodyOf entryOf counted then many ends skipTo bitsTo fieldsTo unto segment string structure text sizedText content descriptor descriptors sizedDescriptors eit event _&_ _⇒_ all any sum first each sameKey isOf takenBy holds release emptyShelf quotaOf watchable inRange keysDiffer quotasFit placesOwned noneTwice noneAboveQuota lastBelowQuota unheardEmpty lengthsFit keysInRange sizesInRange sizesFit obeys orRefuse made openedInRange opened closed judged sameEdition edited placeFor takenAt taken byJudge delivering delivered
+p13 = (refl, (refl, (rw (sealed-sound (eit11 0 0)), refl)))
+
 pub shown : All marked
-shown = (p1, (p2, (p3, (p4, (p5, (p6, (p7, (p8, (p9, (p12, record {}))))))))))
+shown = (p1, (p2, (p3, (p4, (p5, (p6, (p7, (p8, (p9, (p10, (p11, (p12, (p13, record {})))))))))))))

@@ -13,6 +13,11 @@ use Rattle.table.specs.declared.eit.Title.{Title}
 use Rattle.table.specs.declared.eit.Title.the-variants.{None, NoStrings}
 use Rattle.table.specs.Eits as eits
 use Rattle.text.specs.Texts.{fieldUnits}
+use Rattle.shelf_state.specs.declared.records.Asked.{Asked}
+use Rattle.shelf_state.specs.declared.records.Shelf.{Shelf}
+use Rattle.shelf.specs.Answers.{After}
+use Rattle.shelf.specs.Calls.{made, opened, closed}
+use Rattle.shelf.specs.Delivery.{delivered}
 use Rattle.marked.specs.Sections.{eit11, eit10, eit4093, eit4094, tvct1021, tvct1022, mgt14, mgt13, rrt18, rrt17, ett15, ett14, teaText, teaEvent, teaSection, noTitle, zeroTitle, utf16}
 
 -- a section, sealed, is sound, and its header's fields are these
@@ -37,6 +42,24 @@ Titled t at s =
       descriptors = record { start = at; length = 0 };
     })
 
+-- the key of an EIT on a PID
+abbrev pub eitKey : ℕ → ℕ → Asked
+eitKey pid source = record { pid = pid; «table_id» = 0xCB; extension = source }
+
+-- a shelf of four places and three records, with watches of quotas 2 and 2
+abbrev pub fourPlaces : Shelf
+fourPlaces = made 4 3 .shelf
+
+abbrev pub opens : Shelf → ℕ → ℕ → After (Unit {0})
+opens s source quota = opened s 16384 (eitKey 0x1D00 source) quota
+
+abbrev pub twoAndTwo : Shelf
+twoAndTwo = opens (opens fourPlaces 1 2 .shelf) 2 2 .shelf
+
+-- a shelf of one place, with a watch of quota 1 on the EITs above
+abbrev pub quotaOne : Shelf
+quotaOne = opened (made 1 1 .shelf) 4096 (eitKey 0x1D00 7) 1 .shelf
+
 pub data Mark : Type 0 where
   P1 : Mark
   P2 : Mark
@@ -47,7 +70,10 @@ pub data Mark : Type 0 where
   P7 : Mark
   P8 : Mark
   P9 : Mark
+  P10 : Mark
+  P11 : Mark
   P12 : Mark
+  P13 : Mark
 
 -- what each example says
 abbrev pub Says : Mark → Type 0
@@ -60,11 +86,22 @@ Says P6 = Passes Ett 0 0 ett15 × RefusedBy 4 ett14
 Says P7 = Passes Eit 3 3 (eit11 3 3) × RefusedBy 8 (eit11 4 3)
 Says P8 = Titled None 22 noTitle × Titled NoStrings 23 zeroTitle
 Says P9 = (length teaText ≡ 11) × ((length teaEvent ≡ 23) × ((length (sealed teaSection) ≡ 37) × Passes Eit 0 0 teaSection))
+Says P10 =
+    (delivered quotaOne 4096 0x1D00 (sealed (eit11 0 0)) .outcome ≡ result tt)
+    × (delivered quotaOne 4096 0x1D00 (sealed (eit11 0 1)) .outcome ≡ refused 18)
+Says P11 =
+    (opens twoAndTwo 3 1 .outcome ≡ refused 21)
+    × (opens (closed twoAndTwo 16384 (eitKey 0x1D00 1) .shelf) 3 2 .outcome ≡ result tt)
 Says P12 = (fieldUnits (utf16 0 []) 0 ≡ result []) × (fieldUnits (utf16 3 (0 ∷ 65 ∷ 0 ∷ [])) 0 ≡ refused 11)
+Says P13 =
+    (opened fourPlaces 16384 (eitKey 8191 7) 1 .outcome ≡ result tt)
+    × ((opened fourPlaces 16384 (eitKey 8192 7) 1 .outcome ≡ refused 15)
+    × ((delivered fourPlaces 16384 8191 (sealed (eit11 0 0)) .outcome ≡ refused 17)
+    × (delivered fourPlaces 16384 8192 (sealed (eit11 0 0)) .outcome ≡ refused 15)))
 
 -- the list
 abbrev pub marked : List Mark
-marked = P1 ∷ P2 ∷ P3 ∷ P4 ∷ P5 ∷ P6 ∷ P7 ∷ P8 ∷ P9 ∷ P12 ∷ []
+marked = P1 ∷ P2 ∷ P3 ∷ P4 ∷ P5 ∷ P6 ∷ P7 ∷ P8 ∷ P9 ∷ P10 ∷ P11 ∷ P12 ∷ P13 ∷ []
 
 -- each of a list holds
 abbrev pub All : List Mark → Type 0

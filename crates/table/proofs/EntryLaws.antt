@@ -6,13 +6,12 @@ use mathlib.Core.List.{List, [], _∷_}
 use native.Mathlib.Nat.{eq-zero-or-pos}
 use native.Mathlib.Omega.{arith}
 use lib.ListN.{length}
-use Rattle.bytes_at.specs.declared.Walk.{Walk}
 use Rattle.bytes_at.specs.declared.Walk.the-variants.{To}
 use Rattle.bytes_at.specs.Fields.{byteAt, wordAt}
 use Rattle.bytes_at.specs.Walks.{many}
 use Rattle.bytes_at.proofs.FieldLaws.{past}
 use Rattle.bytes_at.proofs.WalkLaws.{to-is, then-inv, skipped}
-use Rattle.format.specs.Formats.{last, head, filled, walks}
+use Rattle.format.specs.Formats.{last, filled, walks}
 use Rattle.format.proofs.FieldLaws.{fields-end}
 use Rattle.format.proofs.FormatLaws.{head-forward}
 use Rattle.strings.specs.Strings.{sizedText, text}

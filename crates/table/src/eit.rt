@@ -1,7 +1,9 @@
 // The event information table.
 use crate::inner::Part;
 use crate::inner::RowsAnswer;
+use crate::inner::descriptors_at;
 use crate::inner::entry_place;
+use crate::inner::event_at;
 use crate::inner::narrow;
 use crate::inner::put4;
 use body::Entry;
@@ -22,7 +24,7 @@ ghost use mathlib.Core.Path.{_≡_};
 ghost use Prim.Native.Nat.{_+_, _-_, _*_, _%_, _<_, _≤_};
 ghost use lib.ListN.{length};
 ghost use lib.Seq.{sets};
-ghost use Rattle.bytes_at.specs.Fields.{byteAt, wordAt};
+ghost use Rattle.bytes_at.specs.Fields.{byteAt};
 ghost use Rattle.bytes_at.specs.Walks.{many};
 ghost use Rattle.format.specs.Formats.{walks};
 ghost use Rattle.body.specs.Bodies as bodies;
@@ -132,28 +134,6 @@ fn place_in(s: &[u8], i: usize) -> Spot
     }
 }
 
-// The event that begins at a.
-fn event_at(s: &[u8], a: usize) -> Event
-    requires { ⌜ a ≤ length (now s) ⌝ }
-    ensures { λ r. ⌜ r ≡ eventOf (now (s .entry)) (eventRow (now (s .entry)) a) ⌝ }
-{
-    let n = byte(s, a + 9);
-    let x = byte(s, a + 6);
-    let t = title_of(s, a + 10, n);
-    let d = Part {
-        start: a + 12 + n,
-        length: word(s, a + 10 + n) % 4096,
-    };
-    Event {
-        event_id: word(s, a) % 16384,
-        start_time: long(s, a + 2),
-        etm_location: x / 16 % 4,
-        length_in_seconds: x % 16 * 65536 + word(s, a + 7),
-        title: t,
-        descriptors: d,
-    }
-}
-
 // The sort of a title that begins at `start` and has n bytes.
 pub fn title_of(s: &[u8], start: usize, n: usize) -> Title
     ensures { λ r. ⌜ r ≡ titleOf (now (s .entry)) start n ⌝ }
@@ -244,18 +224,6 @@ pub fn rows(s: &[u8], out: &mut [u32]) -> RowsAnswer
     match judge_kind(s, Kind::Eit) {
         Head::Refused(k) => RowsAnswer::Refused(k),
         Head::Passes(_h) => rows_in(s, out),
-    }
-}
-
-// The descriptors of the event that begins at a.
-fn descriptors_at(s: &[u8], a: usize) -> Part
-    requires { ⌜ a ≤ length (now s) ⌝ }
-    ensures { λ r. ⌜ ((r .start ≡ descriptorsStart (now (s .entry)) a) × (r .start + r .length ≡ descriptorsEnd (now (s .entry)) a)) × ((r .start ≤ a + 267) × (r .length < 4096)) ⌝ }
-{
-    let n = byte(s, a + 9);
-    Part {
-        start: a + 12 + n,
-        length: word(s, a + 10 + n) % 4096,
     }
 }
 

@@ -3,6 +3,8 @@ use crate::show::number;
 use crate::show::numbers;
 use crate::show::part;
 use crate::show::refused;
+use crate::show::sevens;
+use crate::show::told;
 use rating::Rating;
 use table::eit;
 use table::eit::DescriptorAnswer;
@@ -12,9 +14,6 @@ use table::eit::RatingAnswer;
 use table::eit::TableAnswer;
 use table::eit::TextAnswer;
 use table::eit::Title;
-use table::inner::RowsAnswer;
-ghost use mathlib.Core.Path.{_≡_};
-ghost use lib.ListN.{length};
 
 pub fn fields(s: &[u8]) {
     match eit::fields(s) {
@@ -59,26 +58,9 @@ pub fn event(s: &[u8], i: usize) {
     }
 }
 
-fn told(r: RowsAnswer) {
-    match r {
-        RowsAnswer::Refused(k) => refused(k),
-        RowsAnswer::Are(n) => {
-            io::write_all(1, b" rows");
-            number(n);
-        }
-    }
-}
-
 fn fill(s: &[u8], out: &mut [u32]) {
     told(eit::rows(s, out));
     numbers(out);
-}
-
-// A list to lend, with a number in it that shows whether it was changed.
-fn sevens() -> [u32; 4000]
-    ensures { λ r. ⌜ 4000 ≡ length r ⌝ }
-{
-    [7u32; 4000]
 }
 
 pub fn rows(s: &[u8], room: usize) {

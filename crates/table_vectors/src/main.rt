@@ -1,7 +1,9 @@
 // Runs the vectors of tests/table_vectors.py. A record is an op, three arguments of 64 bits, a length
 // of 16 bits and as many bytes of a section; each is answered by a line.
 mod eits;
+mod mgts;
 mod show;
+mod tvcts;
 
 ghost use Prim.Native.Nat.{_<_, _≤_};
 
@@ -30,27 +32,39 @@ fn argument(head: [u8; 27], at: usize) -> usize
     n
 }
 
+fn answer_eit(op: usize, a: usize, b: usize, c: usize, s: &[u8]) {
+    match op {
+        1 => eits::fields(s),
+        2 => eits::event(s, a),
+        3 => eits::rows(s, a),
+        4 => eits::rating(s, a, b, c),
+        5 => eits::descriptor(s, a, b),
+        6 => eits::advisory_text(s, a, b),
+        17 => eits::ett(s),
+        _ => {}
+    }
+}
+
+fn answer_other(op: usize, a: usize, b: usize, s: &[u8]) {
+    match op {
+        33 => mgts::fields(s),
+        34 => mgts::entry(s, a),
+        35 => mgts::rows(s, a),
+        49 => tvcts::fields(s),
+        50 => tvcts::entry(s, a),
+        51 => tvcts::rows(s, a),
+        65 => mgts::rrt_fields(s),
+        66 => mgts::dimension(s, a),
+        67 => mgts::value(s, a, b),
+        _ => {}
+    }
+}
+
 fn answer(op: usize, a: usize, b: usize, c: usize, s: &[u8]) {
-    if op == 1 {
-        eits::fields(s);
-    }
-    if op == 2 {
-        eits::event(s, a);
-    }
-    if op == 3 {
-        eits::rows(s, a);
-    }
-    if op == 4 {
-        eits::rating(s, a, b, c);
-    }
-    if op == 5 {
-        eits::descriptor(s, a, b);
-    }
-    if op == 6 {
-        eits::advisory_text(s, a, b);
-    }
-    if op == 17 {
-        eits::ett(s);
+    if op < 32 {
+        answer_eit(op, a, b, c, s);
+    } else {
+        answer_other(op, a, b, s);
     }
 }
 

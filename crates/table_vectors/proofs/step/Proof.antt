@@ -5,77 +5,53 @@ use mathlib.Core.Path.{sym}
 use borrow.Author.Needs.{needs}
 use Rattle.table_vectors.proofs.step.Statement.{statement}
 use Rattle.table_vectors.proofs.step.Tie as tie
-use Rattle.table_vectors.proofs.step.Reads as reads
-use Rattle.table_vectors.proofs.step.Lts as lts
-use Rattle.io.proofs.large_buffer.Reads as large-buffer-reads
-use Rattle.io.proofs.read_full.Reads as read-full-reads
-use Rattle.table_vectors.proofs.argument.Reads as argument-reads
-use Rattle.table_vectors.proofs.both.Reads as both-reads
-use Rattle.table_vectors.proofs.run.Reads as run-reads
-use Rattle.table_vectors.proofs.wide.Reads as wide-reads
 
--- src/main.rt:70:25
 slice-aggregate-read-full : tie.Need-slice-aggregate-read-full
 slice-aggregate-read-full c = search needs
 
--- src/main.rt:70:8
 read-full-requires : tie.Need-read-full-requires
 read-full-requires c κs = search needs
 
--- src/main.rt:71:9
 returns : tie.Need-returns
 returns c = search needs
 
--- src/main.rt:73:23
 array-read-both : tie.Need-array-read-both
 array-read-both c = search needs
 
--- src/main.rt:73:33
 array-read-both-2 : tie.Need-array-read-both-2
 array-read-both-2 c = search needs
 
--- src/main.rt:73:9
 both-requires : tie.Need-both-requires
 both-requires c κs = search needs
 
--- src/main.rt:74:9
 argument-requires : tie.Need-argument-requires
 argument-requires c κs = search needs
 
--- src/main.rt:75:9
 argument-requires-2 : tie.Need-argument-requires-2
 argument-requires-2 c κs = search needs
 
--- src/main.rt:76:9
 argument-requires-3 : tie.Need-argument-requires-3
 argument-requires-3 c κs = search needs
 
--- src/main.rt:77:17
 large-buffer-requires : tie.Need-large-buffer-requires
 large-buffer-requires c κs = search needs
 
--- src/main.rt:78:17
 array-read-wide : tie.Need-array-read-wide
 array-read-wide c = search needs
 
--- src/main.rt:78:12
 wide-requires : tie.Need-wide-requires
 wide-requires c κs = search needs
 
--- src/main.rt:78:36
 array-borrow-prefix-s : tie.Need-array-borrow-prefix-s
 array-borrow-prefix-s c = search needs
 
--- src/main.rt:78:36
 slice-aggregate-run : tie.Need-slice-aggregate-run
 slice-aggregate-run c = let b = c .before .before in
     sym (length-take-le (b .before .before .before .before .both .result) (b .large-buffer .result) (omega (arith, b .large-buffer .ensures)))
 
--- src/main.rt:78:5
 run-requires : tie.Need-run-requires
 run-requires c κs = search needs
 
--- src/main.rt:68:1
 returns-2 : tie.Need-returns-2
 returns-2 c = search needs
 

@@ -4,7 +4,7 @@ use Rattle.table.specs.Eits.{rowsOf}
 use Rattle.table.specs.Parts.{withRows}
 use Rattle.section.specs.Headers.{headOutcome}
 use Rattle.refusal.specs.Outcomes.{after}
-use mathlib.Core.Path.{_≡_, sym, ap, _∙_}
+use mathlib.Core.Path.{sym, ap, _∙_}
 use borrow.Author.Needs.{needs}
 use Rattle.table.proofs.eit.rows.Statement.{statement}
 use Rattle.table.proofs.eit.rows.Tie as tie

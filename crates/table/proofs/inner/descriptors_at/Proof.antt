@@ -2,8 +2,8 @@
 use mathlib.Core.Path.{ap, ap₂}
 use native.Mathlib.Omega.{arith}
 use borrow.Author.Needs.{needs}
-use Rattle.table.proofs.eit.descriptors_at.Statement.{statement}
-use Rattle.table.proofs.eit.descriptors_at.Tie as tie
+use Rattle.table.proofs.inner.descriptors_at.Statement.{statement}
+use Rattle.table.proofs.inner.descriptors_at.Tie as tie
 
 add-byte : tie.Need-add-byte
 add-byte c = search needs

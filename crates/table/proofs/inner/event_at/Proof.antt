@@ -1,8 +1,8 @@
 -- `event_at` meets its contract: field by field.
 use Rattle.table.specs.Eits.{eventOf, eventTimes, eventParts, eventRow}
 use borrow.Author.Needs.{needs}
-use Rattle.table.proofs.eit.event_at.Statement.{statement}
-use Rattle.table.proofs.eit.event_at.Tie as tie
+use Rattle.table.proofs.inner.event_at.Statement.{statement}
+use Rattle.table.proofs.inner.event_at.Tie as tie
 
 add-byte : tie.Need-add-byte
 add-byte c = search needs

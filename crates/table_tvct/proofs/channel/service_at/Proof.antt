@@ -1,0 +1,57 @@
+-- `service_at` meets its contract.
+use mathlib.Core.Path.{refl}
+use Rattle.table_tvct.specs.Tvcts.{serviceAt}
+use borrow.Author.Needs.{needs}
+use Rattle.table_tvct.proofs.channel.service_at.Statement.{statement}
+use Rattle.table_tvct.proofs.channel.service_at.Tie as tie
+
+add-word : tie.Need-add-word
+add-word c = search needs
+
+word-requires : tie.Need-word-requires
+word-requires c κs = search needs
+
+cast-t5 : tie.Need-cast-t5
+cast-t5 c = search needs
+
+cast-t8 : tie.Need-cast-t8
+cast-t8 c = search needs
+
+cast-t11 : tie.Need-cast-t11
+cast-t11 c = search needs
+
+cast-t14 : tie.Need-cast-t14
+cast-t14 c = search needs
+
+cast-t16 : tie.Need-cast-t16
+cast-t16 c = search needs
+
+add-word-2 : tie.Need-add-word-2
+add-word-2 c = search needs
+
+word-requires-2 : tie.Need-word-requires-2
+word-requires-2 c κs = search needs
+
+cast-t19 : tie.Need-cast-t19
+cast-t19 c = search needs
+
+returns : tie.Need-returns
+unfolding serviceAt
+returns c =
+    rw (c .word2 .ensures .0, c .before .word .ensures .0) refl
+
+pub service-at-spec : {M : Type 1} → statement M
+service-at-spec =
+    tie.close
+    (tie.spec
+    add-word
+    word-requires
+    cast-t5
+    cast-t8
+    cast-t11
+    cast-t14
+    cast-t16
+    add-word-2
+    word-requires-2
+    cast-t19
+    returns)
