@@ -69,9 +69,28 @@ pub fn string_text(s: &[u8], end: usize, at: usize, k: usize, out: &mut [u16]) -
     ensures answers { λ r. ⌜ numberOutcome r ≡ counted (fitting (length (now (out .entry))) (stringUnits (now (s .entry)) end at k)) ⌝ }
     ensures writes { λ _. ⌜ now (out .exit) ≡ outputAfter (now (out .entry)) (fitting (length (now (out .entry))) (stringUnits (now (s .entry)) end at k)) ⌝ }
 {
+    let titles = annex_c::titles();
+    let descriptions = annex_c::descriptions();
+    string_text_by(&titles, &descriptions, s, end, at, k, out)
+}
+
+// The same with the decode tables lent, for a caller that reads many texts: a table is copied wherever it is named.
+pub fn string_text_by(
+    titles: &[u8],
+    descriptions: &[u8],
+    s: &[u8],
+    end: usize,
+    at: usize,
+    k: usize,
+    out: &mut [u16],
+) -> Answer
+    requires { ⌜ Tables (now titles) (now descriptions) ⌝ }
+    ensures answers { λ r. ⌜ numberOutcome r ≡ counted (fitting (length (now (out .entry))) (stringUnits (now (s .entry)) end at k)) ⌝ }
+    ensures writes { λ _. ⌜ now (out .exit) ≡ outputAfter (now (out .entry)) (fitting (length (now (out .entry))) (stringUnits (now (s .entry)) end at k)) ⌝ }
+{
     match find_string(s, end, at, k) {
         Answer::Refused(r) => Answer::Refused(r),
-        Answer::Value(b) => text_from(s, end, b, out),
+        Answer::Value(b) => { judge_and_write(titles, descriptions, s, end, back(s, b, 1), b, out) }
     }
 }
 
@@ -83,15 +102,6 @@ fn units_from(s: &[u8], end: usize, b: usize) -> Answer
     let descriptions = annex_c::descriptions();
     let mut none = [0u16; 1];
     all_segments(&titles, &descriptions, s, end, back(s, b, 1), b, &mut none)
-}
-
-fn text_from(s: &[u8], end: usize, b: usize, out: &mut [u16]) -> Answer
-    ensures answers { λ r. ⌜ numberOutcome r ≡ counted (fitting (length (now (out .entry))) (joinedUnits (now (s .entry)) end (byteAt (now (s .entry)) (b - 1)) b)) ⌝ }
-    ensures writes { λ _. ⌜ now (out .exit) ≡ outputAfter (now (out .entry)) (fitting (length (now (out .entry))) (joinedUnits (now (s .entry)) end (byteAt (now (s .entry)) (b - 1)) b)) ⌝ }
-{
-    let titles = annex_c::titles();
-    let descriptions = annex_c::descriptions();
-    judge_and_write(&titles, &descriptions, s, end, back(s, b, 1), b, out)
 }
 
 // All segments are judged before the first unit is written.
