@@ -16,6 +16,7 @@ use Rattle.format.proofs.FieldLaws.{fields-end}
 use Rattle.body.specs.declared.entry.Entry.the-variants.{Event}
 use Rattle.body.specs.Bodies.{entryOf, event, counted, eit, bodyOf}
 use Rattle.section.specs.declared.header.Header.{Header}
+use Rattle.section.specs.Sections.{bodyWalk}
 use Rattle.section.proofs.SectionLaws.{section-sound}
 use Rattle.table.specs.Parts.{Stands}
 use Rattle.table.specs.Eits.{judgedEit, eventTimes, eventParts, eventRow, eventEnd}
@@ -34,15 +35,17 @@ event-end s end a b w =
     let z : wordAt s (q .0) ≡ wordAt s (a + 10 + byteAt s (a + 9)) = ap (wordAt s) (omega (arith, t, u, y)) in
     omega (arith, t, u, v, y, z)
 
-pub judged-events : (s : List ℕ) (h : Header) → judgedEit s ≡ result h
-    → Stands (many (walks (entryOf Event) s (length s - 4)) (byteAt s 9) 10)
+pub body-events : (s : List ℕ) (e : ℕ) → bodyWalk Eit s ≡ To e → Stands (many (walks (entryOf Event) s (length s - 4)) (byteAt s 9) 10)
 unfolding bodyOf eit counted
-judged-events s h e =
-    let w = section-sound Eit s h e .1 in
-    let p = then-inv _ _ (w .0) (w .1) in
+body-events s e w =
+    let p = then-inv _ _ e w in
     let q = then-inv _ _ (p .0) (p .1 .0) in
     let t = fields-end 8 [] 1 refl 9 (length s - 4) (q .0) (q .1 .0) in
     (p .0, rw (t .0) at (q .1 .1))
+
+pub judged-events : (s : List ℕ) (h : Header) → judgedEit s ≡ result h
+    → Stands (many (walks (entryOf Event) s (length s - 4)) (byteAt s 9) 10)
+judged-events s h e = let w = section-sound Eit s h e .1 in body-events s (w .0) (w .1)
 
 -- a row is stored in two halves, and has eight numbers
 pub event-row : (s : List ℕ) (a p : ℕ) (l : List ℕ) → sets (sets l p (eventTimes s a)) (p + 4) (eventParts s a) ≡ sets l p (eventRow s a)

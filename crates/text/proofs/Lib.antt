@@ -3,4 +3,5 @@ pub mod UnitLaws
 pub mod JoinLaws
 pub mod TextLaws
 pub mod SoundLaws
+pub mod FewLaws
 pub mod Examples

@@ -1,0 +1,67 @@
+-- How units are shown, one after the other.
+use Prim.Native.Nat.{ℕ, suc, _+_, _/_, _%_, _≤_, _<_}
+use mathlib.Core.Path.{_≡_, refl, sym, ap, _∙_, subst}
+use mathlib.Core.Bool.{Bool, true, false}
+use mathlib.Core.List.{List, [], _∷_, _++_, append-nil, append-assoc}
+use native.Mathlib.Omega.{arith}
+use lib.Dec.{T, ltb}
+use lib.ListN.{length, getD, take}
+use lib.Seq.{take-suc, take-all}
+use borrow.Author.Tests.{ltb-false}
+use Rattle.bytes_at.specs.Choices.{pick, ifLt, ifEq}
+use Rattle.lines.specs.Ascii.{hexDigit}
+use Rattle.lines.specs.Titles.{escaped, plain, shown, allShown}
+use Rattle.lines.specs.Inner.{Put}
+use Rattle.lines.proofs.PutLaws.{put-then}
+
+not-first : (t b : Bool) → pick t false b ≡ true → (t ≡ false) × (b ≡ true)
+not-first true b e = absurd (subst T (sym e) tt)
+not-first false b e = (refl, e)
+
+pub plain-small : (u : ℕ) → plain u ≡ true → u ≤ 126
+unfolding plain ifLt
+plain-small u e =
+    let marks = ifEq u 34 false (ifEq u 92 false true) in
+    ltb-false 126 u (not-first (ltb 126 u) marks (not-first (ltb u 32) (ifLt 126 u false marks) e .1) .0)
+
+pub shown-plain : (u : ℕ) → plain u ≡ true → u ∷ [] ≡ shown u
+unfolding shown
+shown-plain u e = rw e
+
+pub shown-escaped : (u : ℕ) → plain u ≡ false → escaped u ≡ shown u
+unfolding shown
+shown-escaped u e = rw e
+
+-- the two bytes of a unit, two digits each
+pub escaped-is : (u : ℕ)
+    → (92 ∷ 117 ∷ []) ++ ((hexDigit (u / 256 / 16) ∷ hexDigit (u / 256 % 16) ∷ []) ++ (hexDigit (u % 256 / 16) ∷ hexDigit (u % 256 % 16) ∷ []))
+    ≡ escaped u
+unfolding escaped
+escaped-is u =
+    let a : u / 256 / 16 ≡ u / 4096 = omega arith in
+    let b : u % 256 / 16 ≡ u / 16 % 16 = omega arith in
+    let d : u % 256 % 16 ≡ u % 16 = omega arith in
+    rw (a, b, d)
+
+shown-append : (a b : List ℕ) → allShown (a ++ b) ≡ allShown a ++ allShown b
+unfolding allShown
+shown-append [] b = refl
+shown-append (u ∷ a) b = ap (λ (x : List ℕ). shown u ++ x) (shown-append a b) ∙ sym (append-assoc (shown u) (allShown a) (allShown b))
+
+one-shown : (u : ℕ) → allShown (u ∷ []) ≡ shown u
+unfolding allShown
+one-shown u = append-nil (shown u)
+
+-- one unit more, and the last of them
+pub units-more : {l k e : List ℕ} {n m r : ℕ} (us : List ℕ) (i : ℕ) → i < length us → Put (allShown (take i us)) l n m k
+    → Put (shown (getD us i 0)) k m r e → Put (allShown (take (i + 1) us)) l n r e
+units-more {l} {k} {e} {n} {m} {r} us i h p q =
+    let s : suc i ≡ i + 1 = omega arith in
+    let u = getD us i 0 ∷ [] in
+    let t : allShown (take i us) ++ shown (getD us i 0) ≡ allShown (take (i + 1) us) =
+    ap (λ (x : List ℕ). allShown (take i us) ++ x) (sym (one-shown (getD us i 0))) ∙ sym (shown-append (take i us) u)
+    ∙ ap allShown (sym (take-suc us i 0 h) ∙ ap (λ (j : ℕ). take j us) s) in
+    subst (λ (x : List ℕ). Put x l n r e) t (put-then p q)
+
+pub units-end : {l e : List ℕ} {n r : ℕ} (us : List ℕ) (i : ℕ) → length us ≤ i → Put (allShown (take i us)) l n r e → Put (allShown us) l n r e
+units-end {l} {e} {n} {r} us i h p = subst (λ (x : List ℕ). Put (allShown x) l n r e) (take-all i us h) p

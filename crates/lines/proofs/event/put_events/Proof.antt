@@ -1,0 +1,79 @@
+-- `put_events` meets its contract: the lines that are left lead to the answer.
+use mathlib.Core.Path.{_≡_, refl}
+use native.Mathlib.Omega.{arith}
+use lib.ListN.{length}
+use Rattle.lines.proofs.PutLaws.{put-nothing, put-then}
+use Rattle.lines.proofs.EventLaws.{Left, left-step, left-done}
+use borrow.Author.Needs.{needs}
+use Rattle.lines.proofs.event.put_events.Statement.{statement}
+use Rattle.lines.proofs.event.put_events.Tie as tie
+
+abbrev Inv-loop : tie.InvT-loop
+Inv-loop titles descriptions s k units₀ out₀ n m₀ a₀ left₀ units out m a left = (length units ≡ 2040) × Left s k out₀ n out m a left
+
+abbrev μ-loop : tie.MeasureT-loop
+μ-loop titles descriptions s k units₀ out₀ n m₀ a₀ left₀ units out m a left = left
+
+least-requires : tie.Need-least-requires Inv-loop μ-loop
+least-requires c κs = search needs
+
+loop-holds : tie.Need-loop-holds Inv-loop μ-loop
+loop-holds c =
+    let p = c .before .before .before .before .before .before .pre in
+    let l = c .before .before .before .before .before .before .args .out .now in (
+      p .1 .1,
+      record {
+        events = p .1 .0;
+        size = refl;
+        inside = omega (arith, c .least .ensures);
+        leads = λ r e t. put-then (put-nothing l _ _ (c .least .ensures)) t;
+      },
+    )
+
+put-event-requires : tie.Need-put-event-requires Inv-loop μ-loop
+put-event-requires c κs =
+    let i = c .before .before .before .loop .inv in
+    (c .before .before .before .before .before .before .before .before .before .before .pre .0, (i .1 .events .inside, i .0))
+
+event-end-requires : tie.Need-event-end-requires Inv-loop μ-loop
+event-end-requires c κs =
+    let i = c .before .before .before .before .before .before .before .before .loop .inv in
+    (i .1 .events .inside, i .1 .events .small)
+
+sub-left : tie.Need-sub-left Inv-loop μ-loop
+sub-left c = search needs
+
+loop-less : tie.Need-loop-less Inv-loop μ-loop
+loop-less c = search needs
+
+loop-again : tie.Need-loop-again Inv-loop μ-loop
+loop-again c =
+    let d = c .before .before .before .before .before .before .before .before in
+    let i = d .before .loop .inv in
+    (search needs, left-step (i .1) (d .loop-test .taken) (c .before .before .before .before .before .put-event .ensures) (c .event-end .ensures))
+
+same-length : tie.Need-same-length Inv-loop μ-loop
+same-length c = search needs
+
+same-length-2 : tie.Need-same-length-2 Inv-loop μ-loop
+same-length-2 c = c .before .loop .inv .1 .size
+
+returns : tie.Need-returns Inv-loop μ-loop
+returns c = left-done (c .before .loop .inv .1) (omega (arith, c .loop-test .left))
+
+pub put-events-spec : {M : Type 1} → statement M
+put-events-spec =
+    tie.close
+    (tie.spec
+    Inv-loop
+    μ-loop
+    least-requires
+    loop-holds
+    put-event-requires
+    event-end-requires
+    sub-left
+    loop-less
+    loop-again
+    same-length
+    same-length-2
+    returns)

@@ -1,0 +1,43 @@
+-- `is_whole` meets its contract.
+use mathlib.Core.Path.{refl, sym, _∙_}
+use Rattle.bytes_at.proofs.ChoiceLaws.{lt-yes, lt-no, eq-yes, eq-no}
+use Rattle.lines.specs.Records.{whole}
+use borrow.Author.Needs.{needs}
+use Rattle.lines.proofs.records.is_whole.Statement.{statement}
+use Rattle.lines.proofs.records.is_whole.Tie as tie
+
+returns : tie.Need-returns
+unfolding whole
+returns c = lt-yes _ _ _ _ (c .if1 .taken) refl
+
+word-requires : tie.Need-word-requires
+word-requires c κs = search needs
+
+returns-2 : tie.Need-returns-2
+unfolding whole
+returns-2 c = lt-no _ _ _ _ (c .before .before .if1 .left) (eq-no _ _ _ _ (λ e. c .if2 .taken (c .before .word .ensures .0 ∙ e)) refl)
+
+word-requires-2 : tie.Need-word-requires-2
+word-requires-2 c κs = search needs
+
+add-if3 : tie.Need-add-if3
+add-if3 c = search needs
+
+returns-3 : tie.Need-returns-3
+unfolding whole
+returns-3 c =
+    let d = c .before .before in
+    lt-no _ _ _ _ (d .before .before .if1 .left)
+    (eq-yes _ _ _ _ (sym (d .before .word .ensures .0) ∙ d .if2 .left) (lt-yes _ _ _ _ (rw (c .before .word2 .ensures .0) at (c .if3 .taken)) refl))
+
+returns-4 : tie.Need-returns-4
+unfolding whole
+returns-4 c =
+    let d = c .before .before in
+    lt-no _ _ _ _ (d .before .before .if1 .left)
+    (eq-yes _ _ _ _ (sym (d .before .word .ensures .0) ∙ d .if2 .left) (lt-no _ _ _ _ (rw (c .before .word2 .ensures .0) at (c .if3 .left)) refl))
+
+pub is-whole-spec : {M : Type 1} → statement M
+is-whole-spec =
+    tie.close
+    (tie.spec returns word-requires returns-2 word-requires-2 add-if3 returns-3 returns-4)

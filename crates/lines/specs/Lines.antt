@@ -1,0 +1,72 @@
+-- Document 01, "The lister": the lines of a section.
+use Prim.Native.Nat.{ℕ}
+use mathlib.Core.List.{List, _++_}
+use Rattle.bytes_at.specs.Choices.{ifLt}
+use Rattle.bytes_at.specs.Fields.{byteAt}
+use Rattle.refusal.specs.Outcomes.{Outcome, refused, result}
+use Rattle.kind.specs.declared.Kind.{Kind}
+use Rattle.kind.specs.declared.Kind.the-variants.{Mgt, Tvct, Rrt, Eit, Ett}
+use Rattle.kind.specs.Kinds.{kindOf}
+use Rattle.body.specs.declared.entry.Entry.the-variants as sorts
+use Rattle.section.specs.declared.header.Header.{Header}
+use Rattle.section.specs.Sections.{sectionBy}
+use Rattle.table.specs.declared.eit.Event.{Event}
+use Rattle.table.specs.Parts.{rowsFrom}
+use Rattle.table.specs.Eits.{eventRow, eventOf}
+use Rattle.lines.specs.Ascii.{ascii, decimal}
+use Rattle.lines.specs.Titles.{titleShown}
+
+-- a word and a number
+unfoldable pub field : List ℕ → ℕ → List ℕ
+field w x = w ++ decimal x
+
+unfoldable pub kindWord : Kind → List ℕ
+kindWord Mgt = ascii " mgt "
+kindWord Tvct = ascii " tvct "
+kindWord Rrt = ascii " rrt "
+kindWord Eit = ascii " eit "
+kindWord Ett = ascii " ett "
+
+-- PID, kind and extension
+unfoldable pub keyShown : ℕ → Header → List ℕ
+keyShown pid h = field (ascii " pid ") pid ++ (kindWord (h .kind) ++ decimal (h .extension))
+
+-- version, number and last
+unfoldable pub editionShown : Header → List ℕ
+editionShown h = field (ascii " v") (h .version) ++ (field (ascii " ") (h .number) ++ field (ascii "/") (h .last))
+
+-- ---- events
+-- event_id, start_time and length_in_seconds
+unfoldable pub timesShown : Event → List ℕ
+timesShown e =
+    field (ascii "event ") (e .«event_id») ++ (field (ascii " start ") (e .«start_time») ++ field (ascii " length ") (e .«length_in_seconds»))
+
+-- the line of the event that begins at a
+unfoldable pub eventLine : List ℕ → ℕ → List ℕ
+eventLine s a =
+    timesShown (eventOf s (eventRow s a)) ++ (ascii " title " ++ (titleShown s (eventOf s (eventRow s a) .title) ++ ascii "\n"))
+
+-- the lines of n events, the first of which begins at a
+abbrev pub eventLines : List ℕ → ℕ → ℕ → List ℕ
+eventLines s n a = rowsFrom eventLine sorts.Event s n a
+
+-- ---- a section
+-- what follows the section's own fields: of an EIT the count of events, and their lines
+unfoldable pub restShown : List ℕ → Kind → List ℕ
+restShown s Mgt = ascii "\n"
+restShown s Tvct = ascii "\n"
+restShown s Rrt = ascii "\n"
+restShown s Eit = field (ascii " events ") (byteAt s 9) ++ (ascii "\n" ++ eventLines s (byteAt s 9) 10)
+restShown s Ett = ascii "\n"
+
+-- the number of the refusal, or the section
+unfoldable pub refusalShown : ℕ → List ℕ
+refusalShown k = field (ascii " refused ") k ++ ascii "\n"
+
+unfoldable pub outcomeShown : ℕ → List ℕ → Outcome Header → List ℕ
+outcomeShown pid s (refused k) = refusalShown k
+outcomeShown pid s (result h) = keyShown pid h ++ (editionShown h ++ restShown s (h .kind))
+
+-- the lines of a section: 15 comes before 1 to 9
+unfoldable pub sectionShown : ℕ → List ℕ → List ℕ
+sectionShown pid s = ifLt 8191 pid (refusalShown 15) (outcomeShown pid s (sectionBy kindOf s))

@@ -1,0 +1,53 @@
+// The lister: reads records from standard input and prints what each holds, one write a record. What is printed is made by `lines`;
+// here are only the reading and the writing.
+ghost use mathlib.Core.Path.{_≡_};
+ghost use Prim.Native.Nat.{_≤_};
+ghost use lib.ListN.{length};
+
+// Room for the longest record: seven bytes, and as many as a section_length of 12 bits can say.
+const RECORD: usize = 4102;
+
+// Room for the lines of any record.
+const LINES: usize = 262144;
+
+// The bytes of the next record, as far as the input has them, and how many they are.
+fn read_record(room: &mut [u8]) -> usize
+    requires { ⌜ length (now room) ≡ 4102 ⌝ }
+    ensures { λ r. ⌜ r ≤ length (now (room .exit)) ⌝ }
+{
+    let head = io::read_full(0, &mut room[..7]);
+    if head < 7 {
+        return head;
+    }
+    let end = 7 + lines::to_come(&room[..7]);
+    7 + io::read_full(0, &mut room[7..end])
+}
+
+// Every record, as it comes, until the input ends or the output takes no more.
+fn list(room: &mut [u8], out: &mut [u8])
+    requires { ⌜ length (now room) ≡ 4102 ⌝ }
+{
+    let n = lines::begin(out);
+    if !io::write_all(1, &out[..n]) {
+        return;
+    }
+    let mut number = 0;
+    while number < usize::MAX {
+        let size = read_record(room);
+        let r = lines::answer(number, &room[..size], out);
+        let m = r.bytes;
+        if !io::write_all(1, &out[..m]) {
+            return;
+        }
+        if !r.more {
+            return;
+        }
+        number += 1;
+    }
+}
+
+fn main() {
+    let mut record = [0u8; RECORD];
+    let mut out = [0u8; LINES];
+    list(&mut record, &mut out);
+}
