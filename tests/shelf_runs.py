@@ -67,6 +67,9 @@ class Shelf:
     def place(self, w, number):
         return next((i for i, p in enumerate(self.places) if p and p[:2] == (w, number)), None)
 
+    def holds(self, key, number):
+        return any(p and p.number == number and self.records[p.watch].key == key for p in self.places)
+
     def drop(self, w):
         self.places = [None if p and p.watch == w else p for p in self.places]
 
@@ -190,6 +193,7 @@ class History:
             said = f"refused {refusal.args[0]}"
         self.counts[f"{name} {said}" if "refused" in said else name] += 1
         self.counts["all places taken"] += None not in self.shelf.places
+        self.counts["64 sections held"] += None not in self.shelf.places and len(self.shelf.places) == PLACES
         self.calls.append(letter.encode() + lent.to_bytes(4, "big") + data)
         self.lines.append(f"{len(self.lines)} {name} {said} {digest(self.shelf.numbers())} {zlib.adler32(self.area)}")
 
@@ -209,8 +213,10 @@ class History:
             edition = rng.choice(versions), rng.choice(lasts)
         version, last = edition
         table_id = key[1] if key[1] in KINDS else EIT
-        last = min(last, KINDS[table_id][3])
-        return section(table_id, body(rng, table_id, size(rng)), key[2], version, 1, rng.randrange(last + 1), last)
+        numbers = range(min(last, KINDS[table_id][3]) + 1)
+        missing = [n for n in numbers if not self.shelf.holds(key, n)]
+        number = rng.choice(missing if missing and rng.random() < 0.5 else numbers)
+        return section(table_id, body(rng, table_id, size(rng)), key[2], version, 1, number, numbers[-1])
 
     def deliver(self, pid, s, lent):
         def delivered():
@@ -224,7 +230,8 @@ class History:
             return said
         self.call("d", pid.to_bytes(2, "big") + len(s).to_bytes(2, "big") + s, "deliver", delivered, lent)
 
-    def run(self, count, keys, quotas, lasts, versions, turn=0.12):
+    def run(self, count, keys, quotas, lasts, versions, turn=0.12, shut=0.02):
+        """`turn`, `shut`: how often an edition changes, and a watch is closed."""
         rng = self.rng
         for _ in range(count):
             shelf, what, lent = self.shelf, rng.random(), None
@@ -240,7 +247,7 @@ class History:
             if what < 0.1 or not watched:
                 quota = rng.choice(quotas) if rng.random() < 0.95 else rng.choice((0, 17, 64, 65, 255))
                 self.call("o", named + bytes([quota]), "open", lambda: shelf.open(key, quota), lent)
-            elif what < 0.12:
+            elif what < 0.1 + shut:
                 self.call("c", named, "close", lambda: shelf.close(key), lent)
             elif what < 0.22:
                 self.call("s", named, "status", lambda: shelf.status(key), lent)
@@ -269,12 +276,12 @@ def histories():
         h.run(80, eits + others, (1, 2, 3, 4, 6, 9), (0, 1, 2, 3, 5), tuple(range(32)))
     for sizes in (0, 1), (1, 0), (65, 1), (1, 17), (255, 255):
         h.empty(*sizes)
-    for turn in 0.01, 0.2:  # sixteen watches that share all places, their editions steady or not
+    for turn, shut in (0, 0), (0.3, 0.02):  # sixteen watches that share all places: steady, then not
         h.empty(64, 16)
-        h.run(700, many, (4,), (3,), (31, 0), turn)
-    for turn in 0.002, 0.1:  # one watch with all places
+        h.run(700, many, (4,), (3,), (31, 0), turn, shut)
+    for turn, shut in (0, 0), (0.1, 0.02):  # one watch with all places
         h.empty(64, 1)
-        h.run(400, eits[:1], (64,), (63,), (31, 0), turn)
+        h.run(400, eits[:1], (64,), (63,), (31, 0), turn, shut)
     return h
 
 
@@ -284,6 +291,7 @@ if __name__ == "__main__":
         print(n, name)
     met = {int(name.split()[-1]) for name in h.counts if "refused" in name}
     assert met == {*range(1, 10), *range(14, 23)}, met
-    assert all(h.counts[name] > 30 for name in ("all places taken", "another edition", "version 0 after 31", "equal bytes"))
+    for name in "all places taken", "64 sections held", "another edition", "version 0 after 31", "equal bytes":
+        assert h.counts[name] > 30, name
     print(len(h.lines), "calls")
     written("shelf_runs", b"".join(h.calls), ("\n".join(h.lines) + "\nend\n").encode())
