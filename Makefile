@@ -16,3 +16,4 @@ speed:
 	@bash bench/checksum.sh
 	@bash bench/judge.sh
 	@bash bench/titles.sh
+	@bash bench/shelf.sh

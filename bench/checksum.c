@@ -5,8 +5,8 @@
 #include <stdio.h>
 #include <stdlib.h>
 #include <string.h>
-#include <time.h>
 
+#include "clock.h"
 #include "stack.h"
 
 uint32_t measured_register(const uint8_t *s, size_t n);
@@ -45,12 +45,6 @@ static void same(uint32_t c, uint32_t ours, size_t n) {
         return;
     printf("FAILED checksum: %zu bytes, C has %08x and the library %08x\n", n, c, ours);
     exit(1);
-}
-
-static double seconds(void) {
-    struct timespec t;
-    clock_gettime(CLOCK_MONOTONIC, &t);
-    return t.tv_sec + t.tv_nsec * 1e-9;
 }
 
 // The nanoseconds of a call over n bytes; *sum gets the registers of all calls together.

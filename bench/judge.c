@@ -5,83 +5,15 @@
 #include <stdio.h>
 #include <stdlib.h>
 #include <string.h>
-#include <time.h>
 
+#include "clock.h"
+#include "sections.h"
 #include "stack.h"
 
 uint32_t measured_register(const uint8_t *s, size_t n);
 uint8_t measured_judge(const uint8_t *s, size_t n);
 
-enum { ROUNDS = 9, CALLS = 400, LONGEST = 4096 };
-
-typedef struct {
-    const char *name;
-    uint8_t bytes[LONGEST];
-    size_t n;
-} Section;
-
-static uint32_t plain_register(const uint8_t *s, size_t n) {
-    uint32_t r = 0xffffffffu;
-    for (size_t i = 0; i < n; i++)
-        for (int k = 7; k >= 0; k--)
-            r = (r << 1) ^ ((r >> 31) != (s[i] >> k & 1u) ? 0x04c11db7u : 0);
-    return r;
-}
-
-static void put(Section *s, unsigned byte) { s->bytes[s->n++] = byte; }
-
-static void begin(Section *s, const char *name, unsigned table_id) {
-    static const uint8_t head[] = {0xF0, 0, 0, 7, 0xC7, 0, 0, 0};
-    s->name = name;
-    s->n = 0;
-    put(s, table_id);
-    for (size_t i = 0; i < sizeof head; i++)
-        put(s, head[i]);
-}
-
-static void seal(Section *s) {
-    size_t length = s->n + 4 - 3;
-    s->bytes[1] = 0xF0 | length >> 8;
-    s->bytes[2] = length;
-    uint32_t r = plain_register(s->bytes, s->n);
-    for (int k = 24; k >= 0; k -= 8)
-        put(s, r >> k);
-}
-
-// An event with a title of `letters` bytes in one plain segment (none: no title) and n bytes of
-// descriptors to come.
-static void event(Section *s, unsigned letters, unsigned n) {
-    static const uint8_t fields[] = {0xC0, 5, 0, 0, 3, 232, 0xC0, 7, 8};
-    for (size_t i = 0; i < sizeof fields; i++)
-        put(s, fields[i]);
-    put(s, letters ? letters + 8 : 0);
-    if (letters) {
-        static const uint8_t head[] = {1, 'e', 'n', 'g', 1, 0, 0};
-        for (size_t i = 0; i < sizeof head; i++)
-            put(s, head[i]);
-        put(s, letters);
-        for (unsigned i = 0; i < letters; i++)
-            put(s, 'a' + i % 26);
-    }
-    put(s, 0xF0 | n >> 8);
-    put(s, n);
-}
-
-static void empty_descriptors(Section *s, unsigned n) {
-    for (unsigned i = 0; i < n; i++) {
-        put(s, 0x80);
-        put(s, 0);
-    }
-    seal(s);
-}
-
-// As many as an event can hold.
-static void full_event(Section *s) {
-    begin(s, "EIT, one event, 2035 descriptors", 0xCB);
-    put(s, 1);
-    event(s, 0, 2 * 2035);
-    empty_descriptors(s, 2035);
-}
+enum { ROUNDS = 9, CALLS = 400 };
 
 // As many as any section can hold.
 static void full_mgt(Section *s) {
@@ -112,12 +44,6 @@ static void titled_events(Section *s) {
             put(s, advisory[k]);
     }
     seal(s);
-}
-
-static double seconds(void) {
-    struct timespec t;
-    clock_gettime(CLOCK_MONOTONIC, &t);
-    return t.tv_sec + t.tv_nsec * 1e-9;
 }
 
 static void accepted(const Section *s) {

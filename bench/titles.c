@@ -5,8 +5,8 @@
 #include <stdio.h>
 #include <stdlib.h>
 #include <string.h>
-#include <time.h>
 
+#include "clock.h"
 #include "stack.h"
 #include "table.h"
 
@@ -54,12 +54,6 @@ static size_t c_titles(const uint8_t *s, size_t n, uint16_t *out, size_t room) {
     for (size_t at = 0; at < n; at += 1 + s[at])
         texts += decode(s + at + 1, s[at], out) >= 0;
     return texts;
-}
-
-static double seconds(void) {
-    struct timespec t;
-    clock_gettime(CLOCK_MONOTONIC, &t);
-    return t.tv_sec + t.tv_nsec * 1e-9;
 }
 
 static uint16_t room[ROOM];

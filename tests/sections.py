@@ -10,15 +10,24 @@ KINDS = {  # table_id: (name, smallest, largest, largest last_section_number)
 MGT, TVCT, RRT, EIT, ETT = KINDS
 
 
+def byte_in(r, byte):
+    """The checksum's register after one byte, bit by bit: polynomial 0x04C11DB7, high bit first."""
+    for k in range(7, -1, -1):
+        out = r >> 31
+        r = r << 1 & 0xFFFFFFFF
+        if out != byte >> k & 1:
+            r ^= 0x04C11DB7
+    return r
+
+
+TABLE = [byte_in(0, byte) for byte in range(256)]
+
+
 def register(data):
-    """The checksum's register after the bytes: polynomial 0x04C11DB7, from all ones, high bit first."""
+    """The register after the bytes, from all ones."""
     r = 0xFFFFFFFF
     for byte in data:
-        for k in range(7, -1, -1):
-            out = r >> 31
-            r = r << 1 & 0xFFFFFFFF
-            if out != byte >> k & 1:
-                r ^= 0x04C11DB7
+        r = r << 8 & 0xFFFFFFFF ^ TABLE[r >> 24 ^ byte]
     return r
 
 

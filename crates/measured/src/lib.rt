@@ -1,4 +1,6 @@
 // What the programs in bench/ measure, under C names.
+mod shelves;
+
 use bytes_at::byte;
 use part::part_of;
 use section::Head;

@@ -1,5 +1,7 @@
-// Runs the calls of tests/shelf_runs.py on one shelf after another. A call is a letter and its numbers; each is
-// answered by a line.
+// Runs the calls of tests/shelf_runs.py on one shelf after another. A call is a letter, the length of the area that it is lent
+// and its numbers. Each is told by a line: the answer, a digest of the records, a digest of the whole area.
+mod digest;
+
 use shelf::Change;
 use shelf::Kept;
 use shelf::Progress;
@@ -23,6 +25,11 @@ fn key(b: &[u8]) -> Asked {
 fn show(n: usize) {
     io::write_all(1, b" ");
     io::print_decimal(1, n as u64);
+}
+
+fn show_digest(n: u64) {
+    io::write_all(1, b" ");
+    io::print_decimal(1, n);
 }
 
 fn show_change(answer: Change) {
@@ -58,7 +65,7 @@ fn show_progress(answer: Progress) {
     }
 }
 
-// A section that was fetched is told by its place and its checksum register, 0 for a sound one.
+// A section that was fetched is told by its place and a digest of its bytes.
 fn show_kept(answer: Kept, area: &[u8]) {
     match answer {
         Kept::Refused(k) => {
@@ -68,24 +75,24 @@ fn show_kept(answer: Kept, area: &[u8]) {
         Kept::At { start, length } => {
             show(start);
             show(length);
-            if start <= area.len() {
-                let rest = &area[start..];
-                if length <= rest.len() {
-                    show(checksum::register_of(&rest[..length]) as usize);
-                }
-            }
+            show_digest(digest::of_bytes(part::part_of(area, start, length)));
         }
     }
 }
 
-fn empties() -> Shelf {
+// A new shelf, or the one that there was where its sizes are refused.
+fn empties(s: Shelf) -> Shelf {
     let mut b = [0u8; 2];
     io::read_full(0, &mut b);
     let r = shelf::empty(bytes_at::byte(&b, 0), bytes_at::byte(&b, 1));
     io::write_all(1, b" empty");
+    let made = r.shelf;
     let answer = r.answer;
     show_change(answer);
-    r.shelf
+    match answer {
+        Change::Refused(_k) => s,
+        Change::Done => made,
+    }
 }
 
 fn opens(s: Shelf, area: &[u8]) -> Shelf {
@@ -152,32 +159,30 @@ fn act(call: u8, s: Shelf, area: &mut [u8]) -> Shelf {
         b's' => tells(s, area),
         b'f' => fetches(s, area),
         b'd' => delivers(s, area),
-        _ => empties(),
+        _ => empties(s),
     }
 }
 
-// The call on the part of the area that the shelf's places have.
-fn within(call: u8, s: Shelf, area: &mut [u8]) -> Shelf {
-    let count = s.count;
-    if count <= 16 {
-        let size = count * 4096;
-        if size <= area.len() {
-            return act(call, s, &mut area[..size]);
-        }
+// The call on the first `size` bytes of the area.
+fn within(call: u8, size: usize, s: Shelf, area: &mut [u8]) -> Shelf {
+    if size <= area.len() {
+        return act(call, s, &mut area[..size]);
     }
     s
 }
 
 fn step(n: u64, s: Shelf, area: &mut [u8]) -> Next {
-    let mut call = [0u8; 1];
-    if io::read_full(0, &mut call) < 1 {
+    let mut call = [0u8; 5];
+    if io::read_full(0, &mut call) < 5 {
         return Next {
             more: false,
             shelf: s,
         };
     }
     io::print_decimal(1, n);
-    let t = within(call[0], s, area);
+    let t = within(call[0], bytes_at::long(&call, 1), s, area);
+    show_digest(digest::of_records(t));
+    show_digest(digest::of_bytes(area));
     io::write_all(1, b"\n");
     Next {
         more: true,
@@ -200,7 +205,7 @@ fn run(area: &mut [u8]) {
 }
 
 fn main() {
-    let mut area = io::large_buffer();
+    let mut area = [0u8; 262144];
     run(&mut area);
     io::write_all(1, b"end\n");
 }

@@ -5,14 +5,11 @@ use borrow.Author.Needs.{needs}
 use Rattle.shelf_runs.proofs.within.Statement.{statement}
 use Rattle.shelf_runs.proofs.within.Tie as tie
 
-mul-size : tie.Need-mul-size
-mul-size c = search needs
-
 slice-relend-prefix-act : tie.Need-slice-relend-prefix-act
 slice-relend-prefix-act c = search needs
 
 slice-aggregate-act : tie.Need-slice-aggregate-act
-slice-aggregate-act c = sym (length-take-le _ _ (c .before .if2 .taken))
+slice-aggregate-act c = sym (length-take-le _ _ (c .before .if1 .taken))
 
 act-requires : tie.Need-act-requires
 act-requires c κs = search needs
@@ -26,18 +23,13 @@ returns c = search needs
 returns-2 : tie.Need-returns-2
 returns-2 c = search needs
 
-returns-3 : tie.Need-returns-3
-returns-3 c = search needs
-
 pub within-spec : {M : Type 1} → statement M
 within-spec =
     tie.close
     (tie.spec
-    mul-size
     slice-relend-prefix-act
     slice-aggregate-act
     act-requires
     same-length
     returns
-    returns-2
-    returns-3)
+    returns-2)

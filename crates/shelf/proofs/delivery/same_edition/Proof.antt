@@ -1,4 +1,5 @@
 -- `same_edition` meets its contract.
+use native.Mathlib.Omega.{arith}
 use borrow.Author.Tests.{eq-eqb, ne-eqb}
 use borrow.Author.Needs.{needs}
 use Rattle.shelf_state.specs.Loops.{_&_}
@@ -11,14 +12,14 @@ wide-requires c κs = search needs
 
 returns : tie.Need-returns
 unfolding _&_ sameEdition
-returns c = rw (← c .before .before .wide .ensures .0, ne-eqb _ _ (c .if2 .taken), c .before .before .before .if1 .taken)
+returns c = rw (← c .before .before .wide .ensures .0, ne-eqb (c .before .before .wide .result) (c .before .before .before .before .args .h .version) (λ e. omega (arith, e, c .if2 .taken)), c .before .before .before .if1 .taken)
 
 wide-requires-2 : tie.Need-wide-requires-2
 wide-requires-2 c κs = search needs
 
 returns-2 : tie.Need-returns-2
 unfolding _&_ sameEdition
-returns-2 c = rw (← c .before .before .before .before .wide .ensures .0, eq-eqb _ _ (c .before .before .if2 .left), ← c .before .wide2 .ensures .0, c .before .before .before .before .before .if1 .taken)
+returns-2 c = rw (← c .before .before .before .before .wide .ensures .0, eq-eqb (c .before .before .before .before .wide .result) (c .before .before .before .before .before .before .args .h .version) (omega (arith, c .before .before .if2 .left)), ← c .before .wide2 .ensures .0, c .before .before .before .before .before .if1 .taken)
 
 returns-3 : tie.Need-returns-3
 unfolding _&_ sameEdition
