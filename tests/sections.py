@@ -10,6 +10,10 @@ KINDS = {  # table_id: (name, smallest, largest, largest last_section_number)
 MGT, TVCT, RRT, EIT, ETT = KINDS
 
 
+class Refused(Exception):
+    """Its argument is the refusal's number."""
+
+
 def register(data):
     """The checksum's register after the bytes: polynomial 0x04C11DB7, from all ones, high bit first."""
     r = 0xFFFFFFFF
@@ -58,6 +62,15 @@ def header_outcome(s, asked=0):
     if s[6] > s[7] or s[7] > most:
         return 8
     return (s[0], s[3] << 8 | s[4], s[5] >> 1 & 31, s[5] & 1, s[6], s[7])
+
+
+def spoiled(s):
+    """A sound section spoiled in nine ways, for which it is refused by 1 to 9."""
+    kind, body = s[0], s[9:-4]
+    return [s[:2], sealed(b"\xc9" + s[1:-4]), section(kind, body, flags=0x7),
+            section(kind, bytes(KINDS[kind][1] - 11)), s + b"\0", s[:-1] + bytes([s[-1] ^ 1]),
+            section(kind, body, protocol=1), section(kind, body, number=1),
+            section(kind, body + b"\0")]
 
 
 assert register(b"123456789") == 0x0376E6E7
