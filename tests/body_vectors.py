@@ -136,6 +136,16 @@ def descriptor(tag, content):
     return bytes([tag, len(content)]) + content
 
 
+def advisory(*regions, r=3):
+    return descriptor(0x87, bytes([r << 6 | len(regions)]) + b"".join(regions))
+
+
+def region(number, pairs, text=b""):
+    """The reserved bits before a value are its bits inverted."""
+    rows = b"".join(bytes([dimension, (value ^ 15) << 4 | value]) for dimension, value in pairs)
+    return bytes([number, len(pairs)]) + rows + bytes([len(text)]) + text
+
+
 def list_of(n):
     return descriptor(0x80, bytes(255)) * (n // 257) + descriptor(0x80, bytes(n % 257 - 2))
 

@@ -26,6 +26,7 @@ compare segment_vectors python3 tests/segment_vectors.py --check
 compare table_vectors python3 tests/table_vectors.py --check
 compare rating_vectors python3 tests/rating_vectors.py --check
 compare text_vectors python3 tests/text_vectors.py --check
+compare table_text_vectors python3 tests/table_text_vectors.py --check
 compare shelf_rules python3 tests/shelf_rules.py --check
 compare shelf_runs python3 tests/shelf_runs.py --check
 compare annex_c_data python3 tools/check_annex_c.py

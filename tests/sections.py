@@ -23,6 +23,10 @@ def byte_in(r, byte):
 TABLE = [byte_in(0, byte) for byte in range(256)]
 
 
+class Refused(Exception):
+    """Its argument is the refusal's number."""
+
+
 def register(data):
     """The register after the bytes, from all ones."""
     r = 0xFFFFFFFF
@@ -67,6 +71,15 @@ def header_outcome(s, asked=0):
     if s[6] > s[7] or s[7] > most:
         return 8
     return (s[0], s[3] << 8 | s[4], s[5] >> 1 & 31, s[5] & 1, s[6], s[7])
+
+
+def spoiled(s):
+    """A sound section spoiled in nine ways, for which it is refused by 1 to 9."""
+    kind, body = s[0], s[9:-4]
+    return [s[:2], sealed(b"\xc9" + s[1:-4]), section(kind, body, flags=0x7),
+            section(kind, bytes(KINDS[kind][1] - 11)), s + b"\0", s[:-1] + bytes([s[-1] ^ 1]),
+            section(kind, body, protocol=1), section(kind, body, number=1),
+            section(kind, body + b"\0")]
 
 
 assert register(b"123456789") == 0x0376E6E7

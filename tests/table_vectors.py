@@ -2,7 +2,7 @@
 """Vectors for the fields of the five tables and for the rating question, with the answers.
 
 Without a word: writes crates/table_vectors/stdin and stdout. With --check: fails where those files
-are not what this script makes. The answers come from a reader of its own, from the document's
+are not what this script makes. The answers come from the reader in tables.py, from the document's
 rules and from nothing of the library; where a vector says what its answer is meant to be, the
 reader must agree.
 
@@ -20,140 +20,20 @@ of stdout is the record's number and its answer; after the answer for rows stand
 """
 import random
 
-from bodies import section_outcome
-from body_vectors import D, TEA, TWO, descriptor, list_of, string, strings, text_of
-from sections import EIT, ETT, KINDS, MGT, RRT, TVCT, sealed, section
+from body_vectors import (D, TEA, TWO, advisory, descriptor, list_of, region, string, strings,
+                          text_of)
+from sections import EIT, ETT, MGT, RRT, TVCT, Refused, section, spoiled
+from tables import ADVISORY, advisory_text, entry, first_advisory, read, read_descriptors
 from written import written
 
 ORDER = (EIT, ETT, MGT, TVCT, RRT)  # by the high four bits of an op
 ASKED = {EIT: (1, 2, 3, 4, 5, 6), ETT: (1,), MGT: (1, 2, 3), TVCT: (1, 2, 3), RRT: (1, 2, 3)}
-ADVISORY = 0x87
 FAR = 2**64 - 1
-
-
-# ---- the reader, of sections that pass tests 1 to 9
-class Refused(Exception):
-    """Its argument is the refusal's number."""
-
-
-class Bits:
-    def __init__(self, s, start=9):
-        self.s, self.at = s, 8 * start
-
-    def take(self, bits):
-        n = 0
-        for _ in range(bits):
-            n = 2 * n + (self.s[self.at // 8] >> 7 - self.at % 8 & 1)
-            self.at += 1
-        return n
-
-    def reserved(self, bits):
-        self.at += bits
-
-    def place(self, bits):
-        """A length of so many bits: where the bytes after it begin, and how many they are."""
-        length = self.take(bits)
-        start = self.at // 8
-        self.at += 8 * length
-        return [start, length]
-
-
-def read_eit(body, extension):
-    events = []
-    for _ in range(body.take(8)):
-        body.reserved(2)
-        event = [body.take(14), body.take(32)]  # event_id, start_time
-        body.reserved(2)
-        event += [body.take(2), body.take(20)]  # ETM_location, length_in_seconds
-        event += body.place(8)  # title
-        body.reserved(4)
-        events.append(event + body.place(12))
-    return [extension, len(events)], events
-
-
-def read_ett(body, extension):
-    etm_id = body.take(32)
-    start = body.at // 8
-    return [extension, etm_id, start, len(body.s) - 4 - start], []
-
-
-def read_mgt(body, _):
-    tables = []
-    for _ in range(body.take(16)):
-        table = [body.take(16)]  # table_type
-        body.reserved(3)
-        table.append(body.take(13))  # PID
-        body.reserved(3)
-        table += [body.take(5), body.take(32)]  # version, number_bytes
-        body.reserved(4)
-        tables.append(table + body.place(12))
-    body.reserved(4)
-    return [len(tables)] + body.place(12), tables
-
-
-def read_tvct(body, extension):
-    channels = []
-    for _ in range(body.take(8)):
-        channel = [body.take(16) for _ in range(7)]  # short_name
-        body.reserved(4)
-        channel += [body.take(10), body.take(10)]  # major, minor
-        channel += [body.take(8), body.take(32)]  # modulation, carrier
-        channel += [body.take(16), body.take(16)]  # channel_TSID, program_number
-        channel += [body.take(2), body.take(1), body.take(1)]  # ETM_location, access, hidden
-        channel += [body.take(6), body.take(6), body.take(16)]  # six bits, service_type, source_id
-        body.reserved(6)
-        channels.append(channel + body.place(10))
-    body.reserved(6)
-    return [extension, len(channels)] + body.place(10), channels
-
-
-def read_rrt(body, extension):
-    name = body.place(8)
-    dimensions = []
-    for _ in range(body.take(8)):
-        dimension = body.place(8)
-        body.reserved(3)
-        dimension.append(body.take(1))  # graduated_scale
-        values = [body.place(8) + body.place(8) for _ in range(body.take(4))]
-        dimensions.append(dimension + [len(values), values])
-    body.reserved(6)
-    return [extension, extension & 0xFF, *name, len(dimensions)] + body.place(10), dimensions
-
-
-def read_descriptors(s, start, length):
-    """Of each its tag, and where its content begins and how long that is."""
-    bits, them = Bits(s, start), []
-    while bits.at < 8 * (start + length):
-        them.append([bits.take(8)] + bits.place(8))
-    return them
-
-
-def read_regions(s, start):
-    """Of each region of an advisory its number, its pairs (dimension, value), its text's place."""
-    bits, regions = Bits(s, start), []
-    bits.reserved(2)
-    for _ in range(bits.take(6)):
-        region, pairs = bits.take(8), []
-        for _ in range(bits.take(8)):
-            dimension = bits.take(8)
-            bits.reserved(4)
-            pairs.append((dimension, bits.take(4)))
-        regions.append((region, pairs, bits.place(8)))
-    return regions
-
-
-READ = {EIT: read_eit, ETT: read_ett, MGT: read_mgt, TVCT: read_tvct, RRT: read_rrt}
 
 
 # ---- the answers
 def spaced(numbers):
     return " ".join(map(str, numbers))
-
-
-def entry(them, k):
-    if k >= len(them):
-        raise Refused(13)
-    return them[k]
 
 
 def event_answer(s, event):
@@ -174,14 +54,6 @@ def rows_answer(entries, lent):
     return "rows %d" % len(entries)
 
 
-def first_advisory(s, event):
-    """The regions of the event's first advisory, or None."""
-    for tag, start, _ in read_descriptors(s, *event[6:]):
-        if tag == ADVISORY:
-            return read_regions(s, start)
-    return None
-
-
 def rating_answer(regions, region, dimension):
     if regions is None:
         return "no advisory"
@@ -192,18 +64,9 @@ def rating_answer(regions, region, dimension):
     return "value %d" % values[0] if values else "dimension absent"
 
 
-def text_answer(regions, region):
-    return spaced(entry([place for number, _, place in regions or [] if number == region], 0))
-
-
 def answer(op, a, b, c, s, lent):
     kind, asked = ORDER[op >> 4], op & 15
-    said = section_outcome(s, kind)
-    if isinstance(said, int):
-        raise Refused(said)
-    if said[0] == "9":
-        raise Refused(9)
-    fields, entries = READ[kind](Bits(s), Bits(s, 3).take(16))
+    fields, entries = read(s, kind)
     if asked == 1:
         return spaced(fields)
     if asked == 3 and kind != RRT:
@@ -219,7 +82,7 @@ def answer(op, a, b, c, s, lent):
         return rating_answer(first_advisory(s, one), b, c)
     if asked == 5:
         return spaced(entry(read_descriptors(s, *one[6:]), b))
-    return text_answer(first_advisory(s, one), b)
+    return spaced(advisory_text(first_advisory(s, one), b))
 
 
 vectors = []  # (op, a, b, c, bytes, answer)
@@ -302,16 +165,6 @@ def dimension(name, values, scale="0", r="1"):
 def rrt(name, dimensions, d=b"", r="1", **words):
     return packed(RRT, sized(8, name), bits(len(dimensions), 8), *dimensions,
                   sized(10, d, r * 6), **words)
-
-
-def advisory(*regions, r=3):
-    return descriptor(ADVISORY, bytes([r << 6 | len(regions)]) + b"".join(regions))
-
-
-def region(number, pairs, text=b""):
-    """The reserved bits before a value are its bits inverted."""
-    rows = b"".join(bytes([dimension, (value ^ 15) << 4 | value]) for dimension, value in pairs)
-    return bytes([number, len(pairs)]) + rows + bytes([len(text)]) + text
 
 
 BUILT = {EIT: (EVENT, event, eit), MGT: (TABLE, table, mgt), TVCT: (CHANNEL, channel, tvct)}
@@ -579,15 +432,10 @@ for kind, (_, build, whole) in BUILT.items():
 
 # ---- refusals 1 to 9 before 13 and 12, and the sections of other kinds
 for kind, s in SAMPLES.items():
-    body = s[9:-4]
-    refused = [s[:2], sealed(b"\xc9" + s[1:-4]), section(kind, body, flags=0x7),
-               section(kind, bytes(KINDS[kind][1] - 11)), s + b"\0", s[:-1] + bytes([s[-1] ^ 1]),
-               section(kind, body, protocol=1), section(kind, body, number=1),
-               section(kind, body + b"\0")]
     for asked in ASKED[kind]:
         rows = asked == 3 and kind != RRT
-        for k, spoiled in enumerate(refused, 1):
-            add(kind, asked, spoiled, 1 if rows else FAR, meant="refused %d" % k)
+        for k, other in enumerate(spoiled(s), 1):
+            add(kind, asked, other, 1 if rows else FAR, meant="refused %d" % k)
         for other in ORDER:
             if other != kind:
                 add(kind, asked, SAMPLES[other], 70 if rows else 0, meant="refused 2")

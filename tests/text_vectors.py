@@ -7,14 +7,11 @@ import random
 import struct
 
 from annex_c_coder import decode, encode, pack
+from sections import Refused
 from written import written
 
 LAST = 2**64 - 1
 ROOM = 4096
-
-
-class Refused(Exception):
-    pass
 
 
 def parsed(field):
@@ -94,11 +91,16 @@ def shown_text(field, k, room):
         return " text refused %d changed 0:" % r.args[0]
 
 
-def line(field, k, room):
+def answers(field, k, room):
+    """What all four calls tell of a field."""
     out = told("strings", lambda: len(parsed(field)))
     out += told("language", lambda: "%d segments %d" % (string(field, k)[0], len(string(field, k)[1])))
     out += told("units", lambda: len(units(field, k)))
-    out += shown_text(field, k, room)
+    return out + shown_text(field, k, room)
+
+
+def line(field, k, room):
+    out = answers(field, k, room)
     try:
         parsed(field)
         out += " inside" + shown_text(field, k, room)
@@ -247,4 +249,5 @@ def main():
     print("%d vectors, %d of them texts, %d bytes" % (count, read, len(stdin)))
 
 
-main()
+if __name__ == "__main__":
+    main()

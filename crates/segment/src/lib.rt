@@ -3,10 +3,13 @@
 // answer, or a lent slice, would keep the compiler from making jumps of the calls.
 //
 // A segment has at most 255 bytes, since its number_bytes is one byte, and each unit takes a bit or more: 2,040 units have room.
+pub mod inner;
+
+use crate::inner::put;
 use bytes_at::byte;
 ghost use mathlib.Core.Path.{_≡_};
 ghost use Prim.Native.Nat.{_+_, _*_, _<_, _≤_};
-ghost use lib.ListN.{length, getD, take, drop, set};
+ghost use lib.ListN.{length, getD, take, drop};
 ghost use lib.Seq.{sets};
 ghost use Rattle.annex_c.specs.Tree.{root, walked};
 ghost use Rattle.segment.specs.Bits.{bits, number};
@@ -133,17 +136,6 @@ fn raw(t: &&[u8], s: &&[u8], at: usize, left: usize, out: &mut [u16; 2040], n: u
     }
     out[n] = wide(c);
     coded(t, s, at + 8, c, out, n + 1)
-}
-
-// One unit at n + i, where there is room.
-fn put(out: &mut [u16], n: usize, i: usize, u: u16)
-    ensures { λ _. ⌜ now (out .exit) ≡ set (now (out .entry)) (n + i) u ⌝ }
-{
-    if n < out.len() {
-        if i < out.len() - n {
-            out[n + i] = u;
-        }
-    }
 }
 
 // The first k units of o, from place n of the output on.

@@ -6,9 +6,10 @@ use bytes_at::byte;
 use part::part_of;
 use refusal::Refusal;
 use segment::Judged;
+use segment::inner::put;
 ghost use mathlib.Core.Path.{_≡_};
 ghost use Prim.Native.Nat.{_+_, _*_, _^_, _<_, _≤_};
-ghost use lib.ListN.{length, getD, take, set};
+ghost use lib.ListN.{length, getD, take};
 ghost use lib.Seq.{sets};
 ghost use Rattle.refusal.specs.Outcomes.{result};
 ghost use Rattle.annex_c.specs.Tree.{walked};
@@ -67,17 +68,6 @@ fn unit_at(s: &[u8], wide: bool, i: usize) -> u16
         two(s[2 * i], s[2 * i + 1])
     } else {
         one(s[i])
-    }
-}
-
-// One unit at n + i, where there is room.
-fn put(out: &mut [u16], n: usize, i: usize, u: u16)
-    ensures { λ _. ⌜ now (out .exit) ≡ set (now (out .entry)) (n + i) u ⌝ }
-{
-    if n < out.len() {
-        if i < out.len() - n {
-            out[n + i] = u;
-        }
     }
 }
 

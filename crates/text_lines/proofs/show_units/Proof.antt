@@ -1,8 +1,8 @@
--- `text_vectors::show_units` is safe and ends.
+-- `text_lines::show_units` is safe and ends.
 use Prim.Native.Nat.{_-_, _≤_}
 use borrow.Author.Needs.{needs}
-use Rattle.text_vectors.proofs.show_units.Statement.{statement}
-use Rattle.text_vectors.proofs.show_units.Tie as tie
+use Rattle.text_lines.proofs.show_units.Statement.{statement}
+use Rattle.text_lines.proofs.show_units.Tie as tie
 
 abbrev Inv-loop : tie.InvT-loop
 Inv-loop out n i₀ t5 i = i ≤ n

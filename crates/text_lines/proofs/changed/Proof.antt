@@ -1,9 +1,9 @@
--- `text_vectors::changed` is safe and ends.
+-- `text_lines::changed` is safe and ends.
 use Prim.Native.Nat.{_-_, _≤_}
 use lib.ListN.{length}
 use borrow.Author.Needs.{needs}
-use Rattle.text_vectors.proofs.changed.Statement.{statement}
-use Rattle.text_vectors.proofs.changed.Tie as tie
+use Rattle.text_lines.proofs.changed.Statement.{statement}
+use Rattle.text_lines.proofs.changed.Tie as tie
 
 abbrev Inv-loop : tie.InvT-loop
 Inv-loop out n i₀ k₀ i k = k ≤ i

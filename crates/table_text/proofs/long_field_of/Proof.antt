@@ -1,0 +1,28 @@
+-- `long_field_of` meets its contract: the second of the value's two texts.
+use Rattle.refusal.specs.Outcomes.{after}
+use Rattle.table_text.specs.Fields.{longFieldOf}
+use borrow.Author.Needs.{needs}
+use Rattle.table_text.proofs.long_field_of.Statement.{statement}
+use Rattle.table_text.proofs.long_field_of.Tie as tie
+
+value-requires : tie.Need-value-requires
+value-requires c κs = search needs
+
+enum-known-k : tie.Need-enum-known-k
+enum-known-k c = search needs
+
+enum-known-v : tie.Need-enum-known-v
+enum-known-v c = search needs
+
+returns : tie.Need-returns
+unfolding longFieldOf after
+returns c = rw (← c .before .before .before .value .ensures, c .before .k .given .1)
+
+returns-2 : tie.Need-returns-2
+unfolding longFieldOf after
+returns-2 c = let h = c .before .before in
+    rw (← h .before .before .value .ensures, h .v .given .1)
+
+pub long-field-of-spec : {M : Type 1} → statement M
+long-field-of-spec =
+    tie.close (tie.spec value-requires enum-known-k enum-known-v returns returns-2)
