@@ -9,10 +9,36 @@ use lib.ListN.{length, getD, take}
 use lib.Seq.{take-suc, take-all}
 use borrow.Author.Tests.{ltb-false}
 use Rattle.bytes_at.specs.Choices.{pick, ifLt, ifEq}
+use Rattle.bytes_at.proofs.ChoiceLaws.{lt-yes, lt-no, eq-no}
 use Rattle.lines.specs.Ascii.{hexDigit}
 use Rattle.lines.specs.Titles.{escaped, plain, shown, allShown}
 use Rattle.lines.specs.Inner.{Put}
 use Rattle.lines.proofs.PutLaws.{put-then}
+
+-- ---- which units print plainly
+module _ (u : ℕ) where
+  pub plain-low : u < 32 → false ≡ plain u
+  unfolding plain
+  plain-low h = lt-yes u 32 false _ h refl
+
+  pub plain-high : 32 ≤ u → 126 < u → false ≡ plain u
+  unfolding plain
+  plain-high h g = lt-no u 32 false _ h (lt-yes 126 u false _ g refl)
+
+  pub plain-mark : (m : ℕ) → false ≡ plain m → u ≡ m → false ≡ plain u
+  plain-mark m h e = h ∙ ap plain (sym e)
+
+  pub plain-other : 32 ≤ u → u ≤ 126 → (u ≡ 34 → ⊥) → (u ≡ 92 → ⊥) → true ≡ plain u
+  unfolding plain
+  plain-other h g i j = lt-no u 32 false _ h (lt-no 126 u false _ g (eq-no u 34 false _ i (eq-no u 92 false true j refl)))
+
+pub quote-not : false ≡ plain 34
+unfolding plain ifLt ifEq
+quote-not = refl
+
+pub backslash-not : false ≡ plain 92
+unfolding plain ifLt ifEq
+backslash-not = refl
 
 not-first : (t b : Bool) → pick t false b ≡ true → (t ≡ false) × (b ≡ true)
 not-first true b e = absurd (subst T (sym e) tt)

@@ -1,7 +1,9 @@
 -- `is_whole` meets its contract.
 use mathlib.Core.Path.{refl, sym, _∙_}
-use Rattle.bytes_at.proofs.ChoiceLaws.{lt-yes, lt-no, eq-yes, eq-no}
+use native.Mathlib.Omega.{arith}
+use Rattle.bytes_at.proofs.ChoiceLaws.{lt-yes, lt-no, eq-no}
 use Rattle.lines.specs.Records.{whole}
+use Rattle.lines.proofs.RecordLaws.{cut-off, all-there}
 use borrow.Author.Needs.{needs}
 use Rattle.lines.proofs.records.is_whole.Statement.{statement}
 use Rattle.lines.proofs.records.is_whole.Tie as tie
@@ -24,18 +26,14 @@ add-if3 : tie.Need-add-if3
 add-if3 c = search needs
 
 returns-3 : tie.Need-returns-3
-unfolding whole
 returns-3 c =
     let d = c .before .before in
-    lt-no _ _ _ _ (d .before .before .if1 .left)
-    (eq-yes _ _ _ _ (sym (d .before .word .ensures .0) ∙ d .if2 .left) (lt-yes _ _ _ _ (rw (c .before .word2 .ensures .0) at (c .if3 .taken)) refl))
+    cut-off _ (omega (arith, d .before .before .if1 .left)) (sym (d .before .word .ensures .0) ∙ d .if2 .left) (omega (arith, c .before .word2 .ensures .0))
 
 returns-4 : tie.Need-returns-4
-unfolding whole
 returns-4 c =
     let d = c .before .before in
-    lt-no _ _ _ _ (d .before .before .if1 .left)
-    (eq-yes _ _ _ _ (sym (d .before .word .ensures .0) ∙ d .if2 .left) (lt-no _ _ _ _ (rw (c .before .word2 .ensures .0) at (c .if3 .left)) refl))
+    all-there _ (omega (arith, d .before .before .if1 .left)) (sym (d .before .word .ensures .0) ∙ d .if2 .left) (omega (arith, c .before .word2 .ensures .0))
 
 pub is-whole-spec : {M : Type 1} → statement M
 is-whole-spec =

@@ -1,5 +1,6 @@
 -- `put_section` meets its contract: 15, then the judge.
 use mathlib.Core.Path.{sym, ap, _∙_}
+use native.Mathlib.Omega.{arith}
 use Rattle.section.specs.Headers.{headOutcome}
 use Rattle.lines.specs.Lines.{outcomeShown}
 use Rattle.lines.proofs.RecordLaws.{no-pid, a-pid}
@@ -14,7 +15,10 @@ same-length : tie.Need-same-length
 same-length c = search needs
 
 returns : tie.Need-returns
-returns c = rw (no-pid _ (c .before .before .before .before .before .before .before .args .s .now) (c .before .before .before .before .if1 .taken)) at (c .before .before .put-refusal .ensures)
+returns c =
+    let d = c .before .before .before .before in
+    let a = d .before .before .before .args in
+    rw (no-pid (a .pid) (a .s .now) (omega (arith, d .if1 .taken))) at (c .before .before .put-refusal .ensures)
 
 judge-any-requires : tie.Need-judge-any-requires
 judge-any-requires c κs = search needs
@@ -41,7 +45,7 @@ unfolding outcomeShown
 returns-2 c =
     let d = c .before .before .before .before .before in
     let j = sym (d .before .before .judge-any .ensures) ∙ ap headOutcome (d .k .given .1) in
-    rw (a-pid _ _ _ (d .before .before .before .if1 .left) j) at (c .before .before .put-refusal2 .ensures)
+    rw (a-pid (d .before .before .before .before .before .before .args .pid) _ _ (omega (arith, d .before .before .before .if1 .left)) j) at (c .before .before .put-refusal2 .ensures)
 
 same-length-3 : tie.Need-same-length-3
 same-length-3 c = search needs
@@ -50,7 +54,7 @@ returns-3 : tie.Need-returns-3
 returns-3 c =
     let d = c .before .before .before .before .before in
     let j = sym (d .before .before .judge-any .ensures) ∙ ap headOutcome (d .h .given .1) in
-    rw (a-pid _ _ _ (d .before .before .before .if1 .left) j) at (c .before .before .put-sound .ensures)
+    rw (a-pid (d .before .before .before .before .before .before .args .pid) _ _ (omega (arith, d .before .before .before .if1 .left)) j) at (c .before .before .put-sound .ensures)
 
 pub put-section-spec : {M : Type 1} → statement M
 put-section-spec =
