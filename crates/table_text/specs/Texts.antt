@@ -1,5 +1,4 @@
--- Document 01, "Refusal numbers": a text asked of a section: 1 to 9, 13 for its entry, then the text's own order over the field's bytes. In a
--- section that was judged every field is sound, so 9 does not come a second time.
+-- Document 01, "Refusal numbers": a text asked of a section: 1 to 9, 13 for its entry, then the text's own order over the field's bytes.
 use Prim.Native.Nat.{ℕ}
 use mathlib.Core.List.{List}
 use lib.ListN.{length, take, drop}
