@@ -3,3 +3,4 @@ pub mod TitleLaws
 pub mod AnswerLaws
 pub mod EventLaws
 pub mod RecordLaws
+pub mod FitLaws

@@ -1,4 +1,4 @@
--- A unit takes a bit or more, so a string has at most eight units for each byte of its field.
+-- A unit takes a bit or more, so a string has at most eight units for each byte of its field; no text is refused by a number past 13.
 use mathlib.Core.Path.{_≡_, refl, ap, subst}
 use mathlib.Core.Bool.{Bool, true, false}
 use mathlib.Core.List.{List, [], _∷_}
@@ -30,25 +30,25 @@ use Rattle.text.specs.declared.segments.Way.{Way}
 use Rattle.text.specs.declared.segments.Way.the-variants.{Bytes, Utf16, Titles, Descriptions, Unread}
 use Rattle.text.specs.Segments.{utf16Units, textUnits, unitsBy, segmentUnits, pairs}
 use Rattle.text.specs.Strings.{standing, stringCount, stringAt, joined, joinedUnits, stringUnits}
-use Rattle.text.proofs.UnitLaws.{pairs-length}
+use Rattle.text.proofs.UnitLaws.{pairs-length, judged-refusal}
 
--- at most m units
-abbrev Few : ℕ → Outcome (List ℕ) → Type 0
-Few m (refused n) = Unit {0}
+-- at most m units, or a refusal of a text
+abbrev pub Few : ℕ → Outcome (List ℕ) → Type 0
+Few m (refused n) = n ≤ 13
 Few m (result us) = length us ≤ m
 
 few-more : (m n : ℕ) (x : Outcome (List ℕ)) → m ≤ n → Few m x → Few n x
-few-more m n (refused k) h f = tt
+few-more m n (refused k) h f = f
 few-more m n (result us) h f = omega (arith, h, f)
 
 -- ---- one segment
 text-few : (x : Text) (m : ℕ) → Fits m x → Few m (textUnits x)
 unfolding textUnits
-text-few x m f = by (judged 0 x)
+text-few x m f = by (judged 0 x) refl
   where
-    by : (j : Judged) → Few m (elim j [ Units n ↦ result (units x) | Refused k ↦ refused k ])
-    by (Units n) = fits-count m x f
-    by (Refused k) = tt
+    by : (j : Judged) → judged 0 x ≡ j → Few m (elim j [ Units n ↦ result (units x) | Refused k ↦ refused k ])
+    by (Units n) e = fits-count m x f
+    by (Refused k) e = omega (arith, judged-refusal m 0 k x f e)
 
 compressed-few : (read : ℕ → List ℕ → Reading) (s : List ℕ) → Few (8 * length s) (textUnits (segmentText read s))
 unfolding segmentText
@@ -60,7 +60,7 @@ utf16-few s = by (eqb (length s % 2) 0)
   where
     by : (t : Bool) → Few (8 * length s) (pick t (result (pairs s)) (refused 11))
     by true = omega (arith, pairs-length s)
-    by false = tt
+    by false = omega arith
 
 way-few : (w : Way) (s : List ℕ) → Few (8 * length s) (unitsBy w s)
 unfolding unitsBy titleText descriptionText
@@ -68,7 +68,7 @@ way-few Bytes s = omega arith
 way-few Utf16 s = utf16-few s
 way-few Titles s = compressed-few _ s
 way-few Descriptions s = compressed-few _ s
-way-few Unread s = tt
+way-few Unread s = omega arith
 
 segment-few : (s : List ℕ) (at : ℕ) → Few (8 * byteAt s (at + 2)) (segmentUnits s at)
 unfolding segmentUnits
@@ -80,8 +80,8 @@ segment-few s at =
 -- ---- the segments of a string
 joined-few : (m n : ℕ) (x y : Outcome (List ℕ)) → Few m x → Few n y → Few (m + n) (joined x y)
 unfolding joined after
-joined-few m n (refused k) y f g = tt
-joined-few m n (result us) (refused k) f g = tt
+joined-few m n (refused k) y f g = f
+joined-few m n (result us) (refused k) f g = g
 joined-few m n (result us) (result vs) f g = omega (arith, length-append us vs, f, g)
 
 segment-end : (s : List ℕ) (end at b : ℕ) → walks segment s end at ≡ To b → (b ≡ at + 3 + byteAt s (at + 2)) × (b ≤ end)
@@ -98,7 +98,7 @@ next-few : (s : List ℕ) (end at m : ℕ) (w : Walk) → walks segment s end at
     → ((b : ℕ) → b ≤ end → Few (8 * (end - b)) (joinedUnits s end m b))
     → Few (8 * (end - at)) (after (standing w) (λ b. joined (segmentUnits s at) (joinedUnits s end m b)))
 unfolding after standing
-next-few s end at m (Bad x) e h rest = tt
+next-few s end at m (Bad x) e h rest = omega arith
 next-few s end at m (To b) e h rest =
     let q = segment-end s end at b e in
     few-more (8 * byteAt s (at + 2) + 8 * (end - b)) (8 * (end - at)) (joined (segmentUnits s at) (joinedUnits s end m b)) (omega (arith, q, h))
@@ -123,7 +123,7 @@ module _ (s : List ℕ) (end at k : ℕ) where
   head-few : (c : ℕ) (w : Walk) → at ≤ c → fieldsTo (24 ∷ 8 ∷ []) c end ≡ w
       → Few (8 * (end - at)) (after (standing w) (λ b. joinedUnits s end (byteAt s (b - 1)) b))
   unfolding after standing
-  head-few c (Bad x) h e = tt
+  head-few c (Bad x) h e = omega arith
   head-few c (To b) h e =
       let f = fields-end 24 (8 ∷ []) 4 refl c end b e in
       few-more (8 * (end - b)) (8 * (end - at)) (joinedUnits s end (byteAt s (b - 1)) b) (omega (arith, f, h)) (all-few s end (byteAt s (b - 1)) b (f .1))
@@ -132,16 +132,16 @@ module _ (s : List ℕ) (end at k : ℕ) where
   walk-few : (w : Walk) → many (walks string s end) k (at + 1) ≡ w
       → Few (8 * (end - at)) (after (standing (then w (λ b. fieldsTo (24 ∷ 8 ∷ []) b end))) (λ b. joinedUnits s end (byteAt s (b - 1)) b))
   unfolding after standing then
-  walk-few (Bad x) e = tt
+  walk-few (Bad x) e = omega arith
   walk-few (To c) e = head-few c (fieldsTo (24 ∷ 8 ∷ []) c end) (omega (arith, strings-forward s end k (at + 1) c e)) refl
 
-  string-few : Few (8 * (end - at)) (stringUnits s end at k)
+  pub string-few : Few (8 * (end - at)) (stringUnits s end at k)
   unfolding stringUnits stringAt ifLt after
   string-few = by (ltb k (stringCount s end at))
     where
       by : (t : Bool) → Few (8 * (end - at)) (after (pick t (standing (then (many (walks string s end) k (at + 1)) (λ b. fieldsTo (24 ∷ 8 ∷ []) b end))) (refused 13)) (λ b. joinedUnits s end (byteAt s (b - 1)) b))
       by true = walk-few (many (walks string s end) k (at + 1)) refl
-      by false = tt
+      by false = omega arith
 
   pub few-units : (us : List ℕ) → stringUnits s end at k ≡ result us → length us ≤ 8 * (end - at)
   few-units us e = subst (Few (8 * (end - at))) e string-few
