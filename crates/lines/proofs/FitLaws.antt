@@ -44,7 +44,7 @@ use Rattle.lines.specs.Titles.{escaped, plain, shown, allShown, textShow
 use Rattle.lines.specs.Lines.{field, kindWord, keyShown, editionShown, timesShown, eventLine, eventLines}
 use Rattle.lines.specs.Lines.{restShown, refusalShown, outcomeShown, sectionShown}
 use Rattle.lines.specs.Records.{lastLine, whole, sectionIn, Printed, byWhole, printed}
-use Rattle.lines.specs.Inner.{Events}
+use Rattle.lines.specs.Inner.{Put, Events}
 use Rattle.lines.proofs.EventLaws.{title-is, section-events}
 
 -- ---- what holds of both sides holds of the choice
@@ -309,8 +309,12 @@ module _ (n : ℕ) (r : List ℕ) (z : Bytes r) (h : n < 2 ^ 64) where
   whole-few false =
       omega (arith, length-append (decimal n) (ascii " bad record\n" ++ lastLine n), number-few n h, last-few n h)
 
-  pub lines-fit : length r ≤ 4102 → length (printed n r .bytes) ≤ 262144
+  pub lines-fit : length (printed n r .bytes) ≤ 262144
   unfolding printed
-  lines-fit l =
+  lines-fit =
       eq-either (λ (x : Printed). length (x .bytes) ≤ 262144) (record { bytes = lastLine n; more = false }) (byWhole n r (whole r))
       (omega (arith, last-few n h)) (whole-few (whole r)) (length r) 0
+
+  -- so an output of that size is told all of them
+  pub none-left-out : {l e : List ℕ} {m : ℕ} → 262144 ≤ length l → Put (printed n r .bytes) l 0 m e → m ≡ length (printed n r .bytes)
+  none-left-out {l} {e} {m} g p = omega (arith, p .next, lines-fit, g)
