@@ -17,9 +17,9 @@ import time
 
 import body_vectors
 from annex_c_coder import END, ESCAPE, LISTS, code, decode, encode, pack, raw
-from body_vectors import BLANK, D, RATED, SAMPLES, SMALLEST, eit, event, joined, list_of, over, rrt, tvct
+from body_vectors import BLANK, D, RATED, SAMPLES, SMALLEST, eit, event, joined, list_of, rrt, tvct
 from lister import MARK, listed
-from sections import EIT, ETT, KINDS, MGT, RRT, TVCT, sealed, section
+from sections import EIT, KINDS, MGT, RRT, TVCT, sealed, section
 from texts import made as title
 from texts import packed, plain, wide
 
