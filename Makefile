@@ -18,7 +18,7 @@ fmt:
 list:
 	@mkdir -p target
 	@rt check lister > target/list.log 2>&1 || { cat target/list.log; exit 1; }
-	@target/bin/lister < "$(FILE)"
+	@sh tools/run.sh target/bin/lister < "$(FILE)"
 
 speed:
 	@bash bench/checksum.sh

@@ -22,7 +22,7 @@ compare() { # NAME COMMAND..
 }
 
 listed_as() { # EXAMPLE
-    timeout 10 target/bin/lister < "$1.bin" | diff "$1.txt" -
+    timeout 10 sh tools/run.sh target/bin/lister < "$1.bin" | diff "$1.txt" -
 }
 
 compare section_vectors python3 tests/section_vectors.py --check

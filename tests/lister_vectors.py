@@ -5,8 +5,10 @@ The inputs with a `meant` also say here what must come out, and lister.py must a
 answer does not hang on one reader alone. At the first difference the input is saved, the lines are
 shown, and the exit is 1. Another program can be named: python3 tests/lister_vectors.py PROGRAM
 """
+import concurrent.futures
 import os
 import pathlib
+import platform
 import random
 import select
 import struct
@@ -25,6 +27,7 @@ from texts import packed, plain, wide
 
 ROOT = pathlib.Path(__file__).resolve().parent.parent
 LISTER = sys.argv[1] if len(sys.argv) > 1 else ROOT / "target" / "bin" / "lister"
+RUN = [LISTER] if platform.machine() == "x86_64" else ["sh", ROOT / "tools" / "run.sh", LISTER]
 FAILED = ROOT / "target" / "lister-failed.bin"
 LIMIT = 10  # seconds that one run may take
 PID = 0x1D00
@@ -81,8 +84,7 @@ for table_id, (_, smallest, largest, most) in KINDS.items():
             + [section(table_id, body, last=n) for n in (1, 255) if not most]),
         (9, [section(table_id, body + b"\0"), section(table_id, body[:-1]), section(table_id, body[:-5])]),
     ):
-        for s in them:
-            add(record(s), ["0 refused %d" % refusal])
+        add(record(them[0]), ["0 refused %d" % refusal])
         add(b"".join(map(record, them)) + GOOD,
             ["%d refused %d" % (n, refusal) for n in range(len(them))] + [GOOD_LINES[0] % len(them), GOOD_LINES[1]])
     add(record(section(table_id, body), 8192), ["0 refused 15"])
@@ -182,10 +184,9 @@ sort = "wrong marks"
 MARKS = [bytes([first, 0x5A]) for first in (0x00, 0x5A, 0x25, 0xA4, 0xAD, 0xFF)]
 MARKS += [bytes([0xA5, second]) for second in (0x00, 0xA5, 0xDA, 0x5B, 0x52, 0xFF)] + [b"\x5a\xa5", b"\0\0"]
 for mark in MARKS:
-    for before in (0, 10):
-        for rest in (b"", BLANK_EIT * 20):
-            for last in (record(GOOD[4:], PID, mark), record(b"\0\0\0", 65535, mark), mark, record(b"", PID, mark)):
-                after(before, last, rest)
+    for before, rest in (0, b""), (10, BLANK_EIT * 20):
+        for last in (record(GOOD[4:], PID, mark), record(b"\0\0\0", 65535, mark), mark, record(b"", PID, mark)):
+            after(before, last, rest)
 for last in (b"\0", b"\x5a", b"\xff", b"\n", bytes(7), b"guide lister\n", GOOD[1:]):
     add(last, ["0 bad record"])
     add(last + GOOD, ["0 bad record"])
@@ -383,12 +384,12 @@ def any_record():
     return record(s, pid)
 
 
-for _ in range(400):
+for _ in range(300):
     stream = b"".join(any_record() for _ in range(chance.randrange(1, 13)))
     if chance.randrange(4) == 0:
         stream = stream[:chance.randrange(len(stream))]
     add(stream)
-for _ in range(100):
+for _ in range(50):
     add(b"".join(chance.choice((MARK, b"\x1d\0", b"\xcb\xf0\x0b", b"\0", b"\xa5", b"\x5a")) for _ in range(chance.randrange(20))))
 
 
@@ -404,20 +405,23 @@ def failed(what, data, meant, found):
     sys.exit(1)
 
 
-def compared(sort, data, meant):
+def compared(vector):
+    """None, or what is wrong: the words for `failed`."""
+    sort, data, meant = vector
     expected = listed(data)
     if meant is not None:
         lines = ["guide lister", *meant]
         lines.append("end %d" % sum(line[0].isdigit() and not line.endswith("bad record") for line in meant))
         assert expected == "".join(line + "\n" for line in lines).encode(), (sort, meant[:3], expected[:300])
     try:
-        run = subprocess.run([LISTER], input=data, capture_output=True, timeout=LIMIT)
+        run = subprocess.run(RUN, input=data, capture_output=True, timeout=LIMIT)
     except subprocess.TimeoutExpired as late:
-        failed(sort + ": not done in %d seconds" % LIMIT, data, expected, late.stdout or b"")
+        return sort + ": not done in %d seconds" % LIMIT, data, expected, late.stdout or b""
     if run.stdout != expected:
-        failed(sort, data, expected, run.stdout)
+        return sort, data, expected, run.stdout
     if run.returncode or run.stderr:
-        failed("%s: exit %d, errors %r" % (sort, run.returncode, run.stderr), data, expected, run.stdout)
+        return "%s: exit %d, errors %r" % (sort, run.returncode, run.stderr), data, expected, run.stdout
+    return None
 
 
 def left_unread(data, size):
@@ -425,7 +429,7 @@ def left_unread(data, size):
     with tempfile.TemporaryFile() as file:
         file.write(data)
         file.seek(0)
-        run = subprocess.run([LISTER], stdin=file, capture_output=True, timeout=LIMIT)
+        run = subprocess.run(RUN, stdin=file, capture_output=True, timeout=LIMIT)
         at = os.lseek(file.fileno(), 0, os.SEEK_CUR)
     if run.stdout != listed(data):
         failed("from a file", data, listed(data), run.stdout)
@@ -448,7 +452,7 @@ def answered(them, piece):
     """Each record is answered before the next one is sent; `piece`: how many bytes go in at a time."""
     until = time.monotonic() + LIMIT
     sent, seen = b"", b""
-    run = subprocess.Popen([LISTER], stdin=subprocess.PIPE, stdout=subprocess.PIPE, bufsize=0)
+    run = subprocess.Popen(RUN, stdin=subprocess.PIPE, stdout=subprocess.PIPE, bufsize=0)
     try:
         for one in [b""] + them:
             for k in range(0, len(one), piece):
@@ -472,8 +476,11 @@ def answered(them, piece):
 def main():
     if not os.path.exists(LISTER):
         sys.exit("FAILED lister: there is no %s" % LISTER)
-    for vector in inputs:
-        compared(*vector)
+    with concurrent.futures.ThreadPoolExecutor(os.cpu_count()) as pool:
+        for wrong in pool.map(compared, inputs):
+            if wrong:
+                pool.shutdown(wait=False, cancel_futures=True)
+                failed(*wrong)
     left_unread(GOOD + BLANK_EIT, len(GOOD + BLANK_EIT))
     left_unread(GOOD + b"\xa5\x5b" + GOOD[2:] + GOOD * 1000, 2 * len(GOOD))
     left_unread(b"\0" + GOOD * 1000, len(GOOD) + 1)
