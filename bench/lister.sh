@@ -1,6 +1,7 @@
 #!/bin/sh
 # Measures the lister on 100 MB of sections of several sorts. Run it from the repository's root.
 set -e
+[ "$(uname -m)" = x86_64 ] || { echo "FAILED lister: the programs are for x86-64, and a time in an emulator says nothing"; exit 1; }
 mkdir -p target/bench
 rt staticlib measured >target/bench/build.log 2>&1 || { cat target/bench/build.log; exit 1; }
 rt check lister >target/bench/build.log 2>&1 || { cat target/bench/build.log; exit 1; }
