@@ -70,9 +70,9 @@ def rrt(name, dimensions, d=b""):
     return text(name) + number("count", len(dimensions)) + sum(dimensions, []) + list10(d)
 
 
-def event(title=b"", d=b""):
-    return (number("event_id", 5, 2) + number("start_time", 1000, 4)
-            + number("ETM_duration", 1800, 3) + text(title) + list12(d))
+def event(title=b"", d=b"", event_id=5, start=1000, length=1800):
+    return (number("event_id", event_id, 2) + number("start_time", start, 4)
+            + number("ETM_duration", length, 3) + text(title) + list12(d))
 
 
 def eit(events):

@@ -4,7 +4,7 @@
 set -u -o pipefail
 cd "$(dirname "$0")/.."
 
-for tool in rt python3 gcc tee tail; do
+for tool in rt python3 gcc tee tail timeout diff; do
     command -v "$tool" > /dev/null || { echo "FAILED missing tool: $tool"; exit 1; }
 done
 
@@ -21,6 +21,10 @@ compare() { # NAME COMMAND..
     echo "same: $name"
 }
 
+listed_as() { # EXAMPLE
+    timeout 10 sh tools/run.sh target/bin/lister < "$1.bin" | diff "$1.txt" -
+}
+
 compare section_vectors python3 tests/section_vectors.py --check
 compare segment_vectors python3 tests/segment_vectors.py --check
 compare table_vectors python3 tests/table_vectors.py --check
@@ -29,6 +33,10 @@ compare text_vectors python3 tests/text_vectors.py --check
 compare table_text_vectors python3 tests/table_text_vectors.py --check
 compare shelf_rules python3 tests/shelf_rules.py --check
 compare shelf_runs python3 tests/shelf_runs.py --check
+compare examples python3 examples/make.py --check
+compare lister_two_eits listed_as examples/two_eits
+compare lister_all_kinds listed_as examples/all_kinds
+compare lister_vectors python3 tests/lister_vectors.py
 compare annex_c_data python3 tools/check_annex_c.py
 compare annex_c_crate python3 tools/annex_c.py --check
 compare judge_on_a_small_stack bash bench/judge.sh

@@ -11,8 +11,9 @@ from body_vectors import (BLANK, D, LONGEST, SAMPLES, TEA, advisory, dimension, 
                           value)
 from sections import EIT, ETT, KINDS, RRT, Refused, spoiled
 from tables import advisory_text, entry, first_advisory, read
-from text_vectors import BROKEN, LAST, ODD, ROOM, THREE, UNREAD, answers, packed, parsed, plain, units, wide
-from text_vectors import made as strings
+from text_vectors import LAST, ROOM, THREE, answers
+from texts import made as strings
+from texts import BROKEN, ODD, UNREAD, packed, parsed, plain, units, wide
 from written import written
 
 TITLE, ADVISED, EXTENDED, REGION, DIMENSION, SHORT, LONG = range(7)
