@@ -104,11 +104,14 @@ ALL_KINDS = b"".join(record(pid, s) for pid, s in (
     (8192, SILENT),  # 15
 ))
 
-for name, data in (("two_eits.bin", TWO_EITS), ("two_eits.txt", TWO_EITS_LISTED),
-                   ("all_kinds.bin", ALL_KINDS), ("all_kinds.txt", listed(ALL_KINDS))):
+# rt runs the lister on its crate's own stdin: the first example
+LISTER = HERE.parent / "crates" / "lister"
+for path, data in ((HERE / "two_eits.bin", TWO_EITS), (HERE / "two_eits.txt", TWO_EITS_LISTED),
+                   (LISTER / "stdin", TWO_EITS), (LISTER / "stdout", TWO_EITS_LISTED),
+                   (HERE / "all_kinds.bin", ALL_KINDS), (HERE / "all_kinds.txt", listed(ALL_KINDS))):
     if sys.argv[1:] != ["--check"]:
-        (HERE / name).write_bytes(data)
-    elif (HERE / name).read_bytes() != data:
-        sys.exit("examples/%s is not what examples/make.py makes" % name)
+        path.write_bytes(data)
+    elif path.read_bytes() != data:
+        sys.exit("%s is not what examples/make.py makes" % path)
 if listed(TWO_EITS) != TWO_EITS_LISTED:
     sys.exit("tests/lister.py does not give examples/two_eits.txt")

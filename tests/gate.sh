@@ -39,6 +39,11 @@ compare lister_all_kinds listed_as examples/all_kinds
 compare lister_vectors python3 tests/lister_vectors.py
 compare annex_c_data python3 tools/check_annex_c.py
 compare annex_c_crate python3 tools/annex_c.py --check
-compare judge_on_a_small_stack bash bench/judge.sh
+# C links the library only on the machine whose code it is
+if [ "$(uname -m)" = x86_64 ]; then
+    compare judge_on_a_small_stack bash bench/judge.sh
+else
+    echo "left out: judge_on_a_small_stack, since the library is code for x86-64 and C is compiled for $(uname -m) here"
+fi
 
 tail -n 1 "$said"
