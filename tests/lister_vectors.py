@@ -61,7 +61,7 @@ def whole(table_id, fields, **words):
     return section(table_id, joined(fields), **{"version": 3, **words})
 
 
-def spoiled(s):
+def unsealed(s):
     """A wrong checksum, nothing else wrong."""
     return s[:-1] + bytes([s[-1] ^ 1])
 
@@ -83,7 +83,7 @@ for table_id, (_, smallest, largest, most) in KINDS.items():
         (2, [section(n, body) for n in (0x00, 0xC6, 0xC9, 0xCD, 0xFF)]),
         (3, [section(table_id, body, flags=n) for n in (0x0, 0x3, 0x4, 0x7, 0x8, 0xB)]),
         (4, [section(table_id, bytes(n - 10)) for n in (10, smallest - 1, largest + 1, 4094, 4095)]),
-        (6, [spoiled(section(table_id, body)), section(table_id, body)[:-4] + bytes(4)]),
+        (6, [unsealed(section(table_id, body)), section(table_id, body)[:-4] + bytes(4)]),
         (7, [section(table_id, body, protocol=n) for n in (1, 128, 255)]),
         (8, [section(table_id, body, number=n, last=n - 1) for n in (1, 4, 255)]
             + [section(table_id, body, last=n) for n in (1, 255) if not most]),
@@ -101,7 +101,7 @@ for right, refusal in enumerate((2, 3, 4, 6, 7, 8, 9)):
     words = {name: good if k < right else bad for k, (name, bad, good) in enumerate(WORDS)}
     seal, length = words.pop("seal"), words.pop("length")
     s = section(words.pop("table_id"), words.pop("body")[:length - 10], number=2, length=length, **words)
-    s = s if seal else spoiled(s)
+    s = s if seal else unsealed(s)
     ordered += [(record(s, pid), ["%%d refused %d" % (refusal if pid <= 8191 else 15)]) for pid in (PID, 8191, 8192, 65535)]
 add_all(ordered)
 
@@ -169,7 +169,7 @@ def after(before, last, rest=b""):
 
 for size in range(1, len(GOOD)):
     after(0, GOOD[:size])
-for before, last in ((3, GOOD), (0, record(GOOD[4:], 8192)), (1, record(GOOD[4:], 65535)), (12, record(spoiled(GOOD[4:]))),
+for before, last in ((3, GOOD), (0, record(GOOD[4:], 8192)), (1, record(GOOD[4:], 65535)), (12, record(unsealed(GOOD[4:]))),
                      (12, record(b"\xff\xff\xff" + bytes(40)))):
     for size in (1, 2, 3, 4, 5, 6, 7, 8, 20, len(last) - 4, len(last) - 1):
         after(before, last[:size])
