@@ -63,21 +63,31 @@ part-back part.Nothing = refl
 pub part-once : (a b : Part) → partOf a ≡ partOf b → a ≡ b
 part-once = once-by partOf placeOf part-back
 
--- ---- what holds where nothing is found, and of each that fits and begins with x, holds of what a search for x answers
+-- ---- what a search for x answers
 either : {A : Type 0} (P : A → Type 0) (t : Bool) (a b : A) → (t ≡ true → P a) → P b → P (pick t a b)
 either P true a b p q = p refl
 either P false a b p q = q
 
-module _ {A : Type 0} (P : A → Type 0) (s : List ℕ) (size : ℕ → ℕ) (end x : ℕ) (told : ℕ → A) (absent : A)
-    (of-absent : P absent) (of-told : (at : ℕ) → at + size at ≤ end → byteAt s at ≡ x → P (told at)) where
-  first-all : (n at : ℕ) → P (first s size n end at x told absent)
+-- `Left n at` is what is known of the n that are left at a place. Where it goes on from one to the next, and what is asked of an
+-- answer holds where nothing is found, and of each that fits and begins with x, it holds of what is answered
+module _ {A : Type 0} (P : A → Type 0) (s : List ℕ) (size : ℕ → ℕ) (end x : ℕ) (told : ℕ → A) (absent : A) (Left : ℕ → ℕ → Type 0)
+    (goes-on : (n at : ℕ) → at + size at ≤ end → Left (suc n) at → Left n (at + size at)) (of-absent : P absent)
+    (of-told : (n at : ℕ) → at + size at ≤ end → Left (suc n) at → byteAt s at ≡ x → P (told at)) where
+  pub first-left : (n at : ℕ) → Left n at → P (first s size n end at x told absent)
   unfolding first ifEq
-  first-all zero at = of-absent
-  first-all (suc n) at = ⊎-elim
+  first-left zero at g = of-absent
+  first-left (suc n) at g = ⊎-elim
       (λ h. subst P (lt-no end (at + size at) _ _ (omega arith) refl)
-      (either P (eqb (byteAt s at) x) _ _ (λ e. of-told at (omega arith) (eqb-true _ x e)) (first-all n (at + size at))))
+      (either P (eqb (byteAt s at) x) _ _ (λ e. of-told n at (omega arith) g (eqb-true _ x e))
+      (first-left n (at + size at) (goes-on n at (omega arith) g))))
       (λ h. subst P (first-past s size end at x told absent _ refl (suc n) (omega arith)) of-absent)
       (eq-zero-or-pos (at + size at - end))
+
+-- the same where nothing is known
+first-all : {A : Type 0} (P : A → Type 0) (s : List ℕ) (size : ℕ → ℕ) (end x : ℕ) (told : ℕ → A) (absent : A) → P absent
+    → ((at : ℕ) → at + size at ≤ end → byteAt s at ≡ x → P (told at)) → (n at : ℕ) → P (first s size n end at x told absent)
+first-all P s size end x told absent of-absent of-told n at =
+    first-left P s size end x told absent (λ n at. record {}) (λ n at h g. record {}) of-absent (λ n at h g e. of-told at h e) n at (record {})
 
 -- a value is one of 0 to 15
 abbrev Below : Rated → Type 0

@@ -64,11 +64,11 @@ descriptor-within s end (suc k) at d e = ⊎-elim
 
 -- a list that is accepted from `at` on, with f enough for its steps
 module _ (judged : ℕ) (s : List ℕ) (end : ℕ) where
-  abbrev Sound : ℕ → ℕ → Type 0
+  abbrev pub Sound : ℕ → ℕ → Type 0
   Sound f at = (end ≤ at + f) × (unto (walks (descriptor judged) s) f end at ≡ To end)
 
   -- its first descriptor, and the rest
-  sound-first : (f at : ℕ) → Sound f at → at < end
+  pub sound-first : (f at : ℕ) → Sound f at → at < end
       → (b : ℕ) × ((walks (descriptor judged) s end at ≡ To b) × (((b ≡ at + descriptorSize s at) × (b ≤ end)) × Sound (f - 1) b))
   sound-first f at g h =
       let p = then-inv _ _ end (list-first (walks (descriptor judged) s) f end at h (g .0) ∙ g .1) in

@@ -146,20 +146,27 @@ dimensions-taken end (suc n) at e m =
     let t = fields-end 8 (8 ∷ []) 2 refl at end (q .0) (q .1 .0) in
     omega (arith, dimensions-taken end n (q .0) e (q .1 .1))
 
-region-taken : (s : List ℕ) (end at e : ℕ) → walks region s end at ≡ To e → (e ≡ at + regionSize s at) × (e ≤ end)
-unfolding region rated dimension sizedText regionSize ratedSize
-region-taken s end at e w =
+-- a region's text stands behind its dimensions
+pub text-behind : (s : List ℕ) (end at e : ℕ) → walks region s end at ≡ To e → walks sizedText s end (at + ratedSize s at) ≡ To e
+unfolding region rated dimension ratedSize
+text-behind s end at e w =
     let p = then-inv _ _ e w in
     let q = then-inv _ _ (p .0) (p .1 .0) in
     let t = fields-end 8 (8 ∷ []) 2 refl at end (q .0) (q .1 .0) in
     let d = dimensions-taken end _ (q .0) (p .0) (q .1 .1) in
     let n : byteAt s (q .0 - 1) ≡ byteAt s (at + 1) = ap (byteAt s) (omega arith) in
-    let u = then-inv _ _ e (p .1 .1) in
-    let v = fields-end 8 [] 1 refl (p .0) end (u .0) (u .1 .0) in
+    let m : at + (2 + 2 * byteAt s (at + 1)) ≡ p .0 = omega arith in
+    ap (walks sizedText s end) m ∙ p .1 .1
+
+pub region-taken : (s : List ℕ) (end at e : ℕ) → walks region s end at ≡ To e → (e ≡ at + regionSize s at) × (e ≤ end)
+unfolding sizedText regionSize
+region-taken s end at e w =
+    let u = then-inv _ _ e (text-behind s end at e w) in
+    let v = fields-end 8 [] 1 refl (at + ratedSize s at) end (u .0) (u .1 .0) in
     let x = then-inv _ _ e (u .1 .1) in
     let y = skipped 1 (u .0) (byteAt s (u .0 - 1)) end (x .0) (x .1 .0) in
     let z = text .law (record {}) .whole s (x .0) (u .0) e (x .1 .1) in
-    let m : byteAt s (u .0 - 1) ≡ byteAt s (at + (2 + 2 * byteAt s (at + 1))) = ap (byteAt s) (omega arith) in
+    let m : byteAt s (u .0 - 1) ≡ byteAt s (at + ratedSize s at) = ap (byteAt s) (omega arith) in
     (omega arith, omega arith)
 
 -- of a content advisory at a, whose regions the walk passes, the first such region is told, and where none is such it is absent

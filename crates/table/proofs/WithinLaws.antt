@@ -28,7 +28,7 @@ use Rattle.kind.specs.Kinds.{onlyOf}
 use Rattle.rating.specs.Ratings.{Descriptor, descriptorIn, Place, textIn}
 use Rattle.rating.proofs.DescriptorLaws.{descriptor-within}
 use Rattle.rating.proofs.AnswerLaws.{text-within}
-use Rattle.table.specs.Parts.{entryWalk}
+use Rattle.table.specs.Parts.{Stands, entryWalk}
 use Rattle.table.specs.Eits as eits
 use Rattle.table.proofs.EntryLaws.{entry-forward}
 use Rattle.table.proofs.EitLaws.{event-end, judged-events}
@@ -47,12 +47,12 @@ stands-at p (suc i) (suc n) at a e h w v =
     let b : q .0 ≡ r .0 = to-is (r .0) (q .0) (sym (r .1 .0) ∙ q .1 .0) in
     stands-at p i n (r .0) a e (omega arith) (subst (λ (x : ℕ). many p n x ≡ To e) b (q .1 .1)) (r .1 .1)
 
-after-is : {A B : Type 0} (o : Outcome A) (k : A → Outcome B) (b : B) → after o k ≡ result b → (a : A) × ((o ≡ result a) × (k a ≡ result b))
+pub after-is : {A B : Type 0} (o : Outcome A) (k : A → Outcome B) (b : B) → after o k ≡ result b → (a : A) × ((o ≡ result a) × (k a ≡ result b))
 unfolding after
 after-is (refused n) k b e = no-result n b e
 after-is (result a) k b e = (a, (refl, e))
 
-less-is : {A : Type 0} (t : Bool) (n : ℕ) (b : Outcome A) (a : A) → pick t b (refused n) ≡ result a → (t ≡ true) × (b ≡ result a)
+pub less-is : {A : Type 0} (t : Bool) (n : ℕ) (b : Outcome A) (a : A) → pick t b (refused n) ≡ result a → (t ≡ true) × (b ≡ result a)
 less-is true n b a e = (refl, e)
 less-is false n b a e = no-result n a e
 
@@ -60,15 +60,19 @@ standing-is : (w : Walk) (a : ℕ) → eits.standing w ≡ result a → w ≡ To
 standing-is (To b) a e = let q : b ≡ a = cc in ap To q
 standing-is (Bad x) a e = no-result 9 a e
 
--- event i of an EIT that was judged ends before the checksum
-pub event-within : (s : List ℕ) (i a : ℕ) → eits.placeOf s i ≡ result a → eits.eventEnd s a ≤ length s - 4
+-- event i of an EIT that was judged stands, and ends before the checksum
+pub event-stands : (s : List ℕ) (i a : ℕ) → eits.placeOf s i ≡ result a → Stands (walks (entryOf Event) s (length s - 4) a)
 unfolding eits.placeOf eits.placeIn ifLt entryWalk
-event-within s i a e =
+event-stands s i a e =
     let h = after-is (eits.judgedEit s) _ a e in
     let l = less-is (ltb i (byteAt s 9)) 13 _ a (h .1 .1) in
     let w = standing-is (entryWalk Event s 10 i) a (l .1) in
     let j = judged-events s (h .0) (h .1 .0) in
-    let b = stands-at _ i (byteAt s 9) 10 a (j .0) (ltb-true i (byteAt s 9) (l .0)) (j .1) w in
+    stands-at _ i (byteAt s 9) 10 a (j .0) (ltb-true i (byteAt s 9) (l .0)) (j .1) w
+
+pub event-within : (s : List ℕ) (i a : ℕ) → eits.placeOf s i ≡ result a → eits.eventEnd s a ≤ length s - 4
+event-within s i a e =
+    let b = event-stands s i a e in
     let f = entry-forward Event s (length s - 4) a (b .0) (b .1) in
     let g = event-end s (length s - 4) a (b .0) (b .1) in
     omega (arith, f, g)
