@@ -3,7 +3,7 @@
 import random
 
 from annex_c_coder import END, ESCAPE, LISTS, code, decode, encode, pack, raw
-from written import written
+from written import vectors_written
 
 EDGE = 65535
 
@@ -130,20 +130,17 @@ def vectors():
 
 
 def main():
-    stdin, stdout, count, fine = b"", "", 0, 0
+    stdin, lines, texts = b"", [], 0
     for kind, data in vectors():
         units = decode(kind, data)
         stdin += bytes([kind, len(data)]) + data
         if units is None:
-            stdout += "%d refused 11 refused 11: %d %d\n" % (count, EDGE, EDGE)
+            lines.append(" refused 11 refused 11: %d %d" % (EDGE, EDGE))
         else:
-            fine += 1
+            texts += 1
             shown = " ".join(str(u) for u in [EDGE] + units + [EDGE])
-            stdout += "%d units %d units %d: %s\n" % (count, len(units), len(units), shown)
-        count += 1
-    stdout += "vectors %d\n" % count
-    written("segment_vectors", stdin, stdout.encode())
-    print("%d vectors, %d of them texts, %d bytes" % (count, fine, len(stdin)))
+            lines.append(" units %d units %d: %s" % (len(units), len(units), shown))
+    vectors_written("segment_vectors", stdin, lines, texts)
 
 
 if __name__ == "__main__":

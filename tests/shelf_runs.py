@@ -11,7 +11,7 @@ import random
 import zlib
 
 from bodies import section_outcome
-from sections import EIT, ETT, KINDS, MGT, RRT, TVCT, sealed, section
+from sections import EIT, ETT, KINDS, MGT, RRT, TVCT, Refused, sealed, section
 from written import written
 
 PLACE, PLACES = 4096, 64
@@ -27,10 +27,6 @@ def digest(numbers):
 
 
 assert digest(b"123456789") == zlib.adler32(b"123456789")
-
-
-class Refused(Exception):
-    """Its argument is the document's number."""
 
 
 Watch = collections.namedtuple("Watch", "key quota edition")

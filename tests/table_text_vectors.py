@@ -14,7 +14,7 @@ from tables import advisory_text, entry, first_advisory, read
 from text_vectors import LAST, ROOM, THREE, answers
 from texts import made as strings
 from texts import BROKEN, ODD, UNREAD, packed, parsed, plain, units, wide
-from written import written
+from written import vectors_written
 
 TITLE, ADVISED, EXTENDED, REGION, DIMENSION, SHORT, LONG = range(7)
 KIND = {TITLE: EIT, ADVISED: EIT, EXTENDED: ETT, REGION: RRT, DIMENSION: RRT, SHORT: RRT, LONG: RRT}
@@ -231,6 +231,4 @@ for _ in range(400):
         chance.choice((ROOM, ROOM, 3)))
 
 records = b"".join(struct.pack(">BQQQHH", sort, a, b, k, room, len(s)) + s for sort, a, b, k, room, s, _ in vectors)
-lines = "".join("%d%s\n" % (n, vector[-1]) for n, vector in enumerate(vectors))
-written("table_text_vectors", records, (lines + "vectors %d\n" % len(vectors)).encode())
-print("%d vectors, %d of them texts, %d bytes" % (len(vectors), sum("text refused" not in v[-1] for v in vectors), len(records)))
+vectors_written("table_text_vectors", records, [v[-1] for v in vectors], sum("text refused" not in v[-1] for v in vectors))

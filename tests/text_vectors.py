@@ -9,7 +9,7 @@ import struct
 from annex_c_coder import encode, pack
 from sections import Refused
 from texts import BROKEN, ODD, UNREAD, made, packed, parsed, plain, string, units, wide
-from written import written
+from written import vectors_written
 
 LAST = 2**64 - 1
 ROOM = 4096
@@ -153,17 +153,12 @@ def vectors():
 
 
 def main():
-    stdin, stdout, count, read = b"", "", 0, 0
+    stdin, lines = b"", []
     for field, k, room in vectors():
         assert len(field) <= 4000 and room <= ROOM
         stdin += struct.pack(">QHH", k, room, len(field)) + field
-        shown = line(field, k, room)
-        read += "text refused" not in shown
-        stdout += "%d%s\n" % (count, shown)
-        count += 1
-    stdout += "vectors %d\n" % count
-    written("text_vectors", stdin, stdout.encode())
-    print("%d vectors, %d of them texts, %d bytes" % (count, read, len(stdin)))
+        lines.append(line(field, k, room))
+    vectors_written("text_vectors", stdin, lines, sum("text refused" not in shown for shown in lines))
 
 
 if __name__ == "__main__":

@@ -32,7 +32,8 @@ use Rattle.table.proofs.EntryLaws.{entry-forward}
 use Rattle.table.proofs.RowLaws.{many-inv}
 use Rattle.table.proofs.EitLaws.{event-end, body-events}
 use Rattle.lines.specs.Lines.{eventLine, eventLines}
-use Rattle.lines.specs.Inner.{Put, Placed, Events}
+use Rattle.lines.specs.Output.{Put}
+use Rattle.lines.specs.Inner.{Placed, Events}
 use Rattle.lines.proofs.PutLaws.{put-nothing, put-then, put-size, put-inside}
 
 -- ---- the title of an event

@@ -44,7 +44,8 @@ use Rattle.lines.specs.Titles.{escaped, plain, shown, allShown, textShow
 use Rattle.lines.specs.Lines.{field, kindWord, keyShown, editionShown, timesShown, eventLine, eventLines}
 use Rattle.lines.specs.Lines.{restShown, refusalShown, outcomeShown, sectionShown}
 use Rattle.lines.specs.Records.{lastLine, whole, sectionIn, Printed, byWhole, printed}
-use Rattle.lines.specs.Inner.{Put, Events}
+use Rattle.lines.specs.Output.{Put}
+use Rattle.lines.specs.Inner.{Events}
 use Rattle.lines.proofs.EventLaws.{title-is, section-events}
 
 -- ---- what holds of both sides holds of the choice

@@ -11,7 +11,7 @@ use lib.Seq.{sets, set-out, length-sets, take-suc, take-all}
 use Rattle.table.proofs.RowLaws.{sets-append}
 use Rattle.bytes_at.proofs.ChoiceLaws.{lt-yes, lt-no}
 use Rattle.lines.specs.Ascii.{digit, decimalBy}
-use Rattle.lines.specs.Inner.{Put}
+use Rattle.lines.specs.Output.{Put}
 
 -- what has no room is left out
 sets-out : (bs l : List ℕ) (i : ℕ) → length l ≤ i → sets l i bs ≡ l

@@ -12,7 +12,7 @@ use Rattle.section.specs.declared.header.Header.{Header}
 use Rattle.section.specs.Sections.{sectionBy}
 use Rattle.lines.specs.Lines.{refusalShown, outcomeShown, sectionShown}
 use Rattle.lines.specs.Records.{lastLine, whole, Printed, byWhole, printed}
-use Rattle.lines.specs.Inner.{Put}
+use Rattle.lines.specs.Output.{Put}
 
 module _ (pid : ℕ) (s : List ℕ) where
   pub no-pid : 8191 < pid → refusalShown 15 ≡ sectionShown pid s

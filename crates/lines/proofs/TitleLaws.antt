@@ -12,7 +12,7 @@ use Rattle.bytes_at.specs.Choices.{pick, ifLt, ifEq}
 use Rattle.bytes_at.proofs.ChoiceLaws.{lt-yes, lt-no, eq-no}
 use Rattle.lines.specs.Ascii.{hexDigit}
 use Rattle.lines.specs.Titles.{escaped, plain, shown, allShown}
-use Rattle.lines.specs.Inner.{Put}
+use Rattle.lines.specs.Output.{Put}
 use Rattle.lines.proofs.PutLaws.{put-then}
 
 -- ---- which units print plainly

@@ -1,9 +1,7 @@
--- What the private functions promise.
-use mathlib.Core.Path.{_≡_}
-use Prim.Native.Nat.{ℕ, _+_, _-_, _≤_, _<_, min}
+-- What the private functions are lent and hand on.
+use Prim.Native.Nat.{ℕ, _+_, _-_, _≤_, _<_}
 use mathlib.Core.List.{List}
 use lib.ListN.{length, take}
-use lib.Seq.{sets}
 use Rattle.refusal.specs.Numbers.{numberOf}
 use Rattle.refusal.specs.Outcomes.{Outcome, refused, result}
 use Rattle.bytes_at.specs.Walks.{many}
@@ -15,12 +13,6 @@ use Rattle.table.specs.declared.eit.Title.the-variants.{None, NoStrings, Text}
 use Rattle.table.specs.Parts.{Stands}
 use Rattle.text.specs.declared.answer.Answer.{Answer}
 use Rattle.text.specs.declared.answer.Answer.the-variants.{Refused, Value}
-
--- The bytes bs were put into the output l from place n on, those that have room: the next place is r, the output's end at most, and the
--- output is then e.
-pub record Put (bs l : List ℕ) (n r : ℕ) (e : List ℕ) : Type 0 where
-  pub next : r ≡ min (length l) (n + length bs)
-  pub puts : e ≡ sets l n bs
 
 -- a title that stands in a section of so many bytes
 abbrev pub Placed : ℕ → Title → Type 0

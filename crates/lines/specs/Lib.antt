@@ -3,4 +3,5 @@ pub mod Ascii
 pub mod Titles
 pub mod Lines
 pub mod Records
+pub mod Output
 pub mod Inner

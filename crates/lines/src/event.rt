@@ -18,7 +18,8 @@ ghost use Rattle.table.specs.Eits.{eventOf, eventRow, eventEnd};
 ghost use Rattle.lines.specs.Ascii.{ascii};
 ghost use Rattle.lines.specs.Titles.{titleShown};
 ghost use Rattle.lines.specs.Lines.{timesShown, eventLine, eventLines};
-ghost use Rattle.lines.specs.Inner.{Put, Placed, Events};
+ghost use Rattle.lines.specs.Output.{Put};
+ghost use Rattle.lines.specs.Inner.{Placed, Events};
 
 fn put_times(out: &mut [u8], n: usize, e: Event) -> usize
     ensures { λ r. ⌜ Put (timesShown e) (now (out .entry)) n r (now (out .exit)) ⌝ }

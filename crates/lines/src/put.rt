@@ -1,11 +1,13 @@
 // Putting bytes, words and numbers into an output. Each function takes the place where it begins and answers the next one; what has no
 // room is left out, so that no caller need know how long a line is.
+use refusal::Refusal;
 ghost use mathlib.Core.Path.{_≡_};
 ghost use mathlib.Core.List.{[], _∷_};
 ghost use Prim.Native.Nat.{ℕ, _<_, min};
+ghost use Rattle.refusal.specs.Numbers.{numberOf};
 ghost use Rattle.lines.specs.Ascii.{digit, decimal, decimalBy};
 ghost use Rattle.lines.specs.Lines.{field};
-ghost use Rattle.lines.specs.Inner.{Put};
+ghost use Rattle.lines.specs.Output.{Put};
 
 pub fn least(a: usize, b: usize) -> usize
     ensures { λ r. ⌜ r ≡ min a b ⌝ }
@@ -64,4 +66,11 @@ pub fn put_field(out: &mut [u8], n: usize, word: &[u8], x: usize) -> usize
 {
     let m = put_all(out, n, word);
     put_number(out, m, x)
+}
+
+// A refusal's number, to be put.
+pub fn number_of(k: Refusal) -> usize
+    ensures { λ r. ⌜ r ≡ numberOf k ⌝ }
+{
+    k.number() as usize
 }

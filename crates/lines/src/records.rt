@@ -12,7 +12,7 @@ ghost use Rattle.bytes_at.specs.Fields.{wordAt};
 ghost use Rattle.lines.specs.Ascii.{ascii, decimal};
 ghost use Rattle.lines.specs.Lines.{sectionShown};
 ghost use Rattle.lines.specs.Records.{firstLine, lastLine, toCome, whole, sectionIn, printed};
-ghost use Rattle.lines.specs.Inner.{Put};
+ghost use Rattle.lines.specs.Output.{Put};
 
 // How many bytes of the output were put, and whether the run goes on.
 pub struct Listed {

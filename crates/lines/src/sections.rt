@@ -1,5 +1,6 @@
 // The lines of a section.
 use crate::event::list_events;
+use crate::put::number_of;
 use crate::put::put_all;
 use crate::put::put_field;
 use crate::put::put_number;
@@ -16,7 +17,8 @@ ghost use Rattle.kind.specs.Kinds.{kindOf};
 ghost use Rattle.section.specs.Sections.{sectionBy};
 ghost use Rattle.bytes_at.specs.Fields.{byteAt};
 ghost use Rattle.lines.specs.Lines.{kindWord, keyShown, editionShown, restShown, refusalShown, outcomeShown, sectionShown};
-ghost use Rattle.lines.specs.Inner.{Put, Events};
+ghost use Rattle.lines.specs.Output.{Put};
+ghost use Rattle.lines.specs.Inner.{Events};
 
 fn put_kind(out: &mut [u8], n: usize, kind: Kind) -> usize
     ensures { λ r. ⌜ Put (kindWord kind) (now (out .entry)) n r (now (out .exit)) ⌝ }
@@ -84,8 +86,7 @@ fn put_sound(pid: usize, s: &[u8], h: Header, out: &mut [u8], n: usize) -> usize
 fn put_refusal(out: &mut [u8], n: usize, k: Refusal) -> usize
     ensures { λ r. ⌜ Put (refusalShown (numberOf k)) (now (out .entry)) n r (now (out .exit)) ⌝ }
 {
-    let number = k.number() as usize;
-    let m = put_field(out, n, b" refused ", number);
+    let m = put_field(out, n, b" refused ", number_of(k));
     put_all(out, m, b"\n")
 }
 

@@ -1,9 +1,9 @@
 // A title as the lister shows it.
 use crate::put::least;
+use crate::put::number_of;
 use crate::put::put;
 use crate::put::put_all;
 use crate::put::put_field;
-use refusal::Refusal;
 use table::eit::Title;
 use table::inner::Part;
 use text::Answer;
@@ -12,13 +12,13 @@ ghost use mathlib.Core.Path.{_≡_};
 ghost use mathlib.Core.List.{[], _∷_};
 ghost use Prim.Native.Nat.{_+_, _/_, _%_, _≤_, _<_};
 ghost use lib.ListN.{length};
-ghost use Rattle.refusal.specs.Numbers.{numberOf};
 ghost use Rattle.refusal.specs.Outcomes.{result};
 ghost use Rattle.text.specs.Strings.{stringUnits};
 ghost use Rattle.text.specs.Inner.{Tables};
 ghost use Rattle.lines.specs.Ascii.{hexDigit};
 ghost use Rattle.lines.specs.Titles.{escaped, plain, shown, allShown, textShown, titleShown};
-ghost use Rattle.lines.specs.Inner.{Put, Placed, Fits, told};
+ghost use Rattle.lines.specs.Output.{Put};
+ghost use Rattle.lines.specs.Inner.{Placed, Fits, told};
 
 fn hex_digit(d: usize) -> u8
     requires { ⌜ d < 16 ⌝ }
@@ -97,12 +97,6 @@ fn put_quoted(out: &mut [u8], n: usize, units: &[u16]) -> usize
     let m = put_all(out, n, b"\"");
     let end = put_units(out, m, units);
     put_all(out, end, b"\"")
-}
-
-fn number_of(k: Refusal) -> usize
-    ensures { λ r. ⌜ r ≡ numberOf k ⌝ }
-{
-    k.number() as usize
 }
 
 // The text that a call answered, its units at the list's start.

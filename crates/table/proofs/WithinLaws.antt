@@ -14,7 +14,8 @@ use Rattle.bytes_at.specs.declared.Walk.the-variants.{To, Bad}
 use Rattle.bytes_at.specs.Choices.{pick, ifLt}
 use Rattle.bytes_at.specs.Fields.{byteAt, wordAt}
 use Rattle.bytes_at.specs.Walks.{many}
-use Rattle.bytes_at.proofs.WalkLaws.{to-is, then-inv}
+use Rattle.bytes_at.proofs.ChoiceLaws.{lt-yes}
+use Rattle.bytes_at.proofs.WalkLaws.{to-is, then-inv, then-to}
 use Rattle.refusal.specs.Outcomes.{Outcome, refused, result, after}
 use Rattle.format.specs.Formats.{walks}
 use Rattle.body.specs.declared.entry.Entry.the-variants.{Event}
@@ -59,6 +60,25 @@ less-is false n b a e = no-result n a e
 standing-is : (w : Walk) (a : ℕ) → eits.standing w ≡ result a → w ≡ To a
 standing-is (To b) a e = let q : b ≡ a = cc in ap To q
 standing-is (Bad x) a e = no-result 9 a e
+
+-- on the way past n entries the place of each is reached
+pub reached : (p : ℕ → Walk) (i n at e : ℕ) → i < n → many p n at ≡ To e → Stands (many p i at)
+unfolding many
+reached p zero n at e h w = (at, refl)
+reached p (suc i) zero at e h w = absurd (omega arith)
+reached p (suc i) (suc n) at e h w =
+    let q = then-inv (p at) (many p n) e w in
+    let r = reached p i n (q .0) e (omega arith) (q .1 .1) in
+    (r .0, then-to (p at) (many p i) (q .0) (To (r .0)) (q .1 .0) (r .1))
+
+-- so an event that an EIT has is found in one that was judged: 9 is not answered for the way to it
+pub event-found : (s : List ℕ) (i : ℕ) (h : Header) → eits.judgedEit s ≡ result h → i < byteAt s 9 → (a : ℕ) × (eits.placeOf s i ≡ result a)
+unfolding eits.placeOf eits.placeIn entryWalk after
+event-found s i h e l =
+    let j = judged-events s h e in
+    let r = reached _ i (byteAt s 9) 10 (j .0) l (j .1) in
+    let w = sym (ap eits.standing (r .1)) in
+    (r .0, rw e (sym (lt-yes i (byteAt s 9) (eits.standing (entryWalk Event s 10 i)) (refused 13) {r = result (r .0)} l w)))
 
 -- event i of an EIT that was judged stands, and ends before the checksum
 pub event-stands : (s : List ℕ) (i a : ℕ) → eits.placeOf s i ≡ result a → Stands (walks (entryOf Event) s (length s - 4) a)

@@ -3,7 +3,7 @@ use Prim.Native.Nat.{_-_, _≤_}
 use native.Mathlib.Omega.{arith}
 use lib.ListN.{length, take}
 use borrow.Author.Needs.{needs}
-use Rattle.lines.specs.Inner.{Put}
+use Rattle.lines.specs.Output.{Put}
 use Rattle.lines.proofs.PutLaws.{put-nothing, put-size, put-more, put-end}
 use Rattle.lines.proofs.put.put_all.Statement.{statement}
 use Rattle.lines.proofs.put.put_all.Tie as tie

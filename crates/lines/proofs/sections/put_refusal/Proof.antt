@@ -5,14 +5,11 @@ use borrow.Author.Needs.{needs}
 use Rattle.lines.proofs.sections.put_refusal.Statement.{statement}
 use Rattle.lines.proofs.sections.put_refusal.Tie as tie
 
-number-requires : tie.Need-number-requires
-number-requires c κs = search needs
-
-cast-number : tie.Need-cast-number
-cast-number c = search needs
-
 slice-aggregate-put-field : tie.Need-slice-aggregate-put-field
 slice-aggregate-put-field c = search needs
+
+number-of-requires : tie.Need-number-of-requires
+number-of-requires c κs = search needs
 
 put-field-requires : tie.Need-put-field-requires
 put-field-requires c κs = search needs
@@ -30,15 +27,14 @@ returns : tie.Need-returns
 unfolding refusalShown
 returns c =
     let d = c .before .before .before .before .before .before .before in
-    put-then (rw (d .before .before .before .number .ensures) at (d .put-field .ensures)) (c .before .before .put-all .ensures)
+    put-then (rw (d .before .number-of .ensures) at (d .put-field .ensures)) (c .before .before .put-all .ensures)
 
 pub put-refusal-spec : {M : Type 1} → statement M
 put-refusal-spec =
     tie.close
     (tie.spec
-    number-requires
-    cast-number
     slice-aggregate-put-field
+    number-of-requires
     put-field-requires
     slice-aggregate-put-all
     put-all-requires

@@ -4,7 +4,7 @@ use native.Mathlib.Omega.{arith}
 use lib.ListN.{length, take}
 use borrow.Author.Needs.{needs}
 use Rattle.lines.specs.Titles.{allShown}
-use Rattle.lines.specs.Inner.{Put}
+use Rattle.lines.specs.Output.{Put}
 use Rattle.lines.proofs.PutLaws.{put-nothing, put-size}
 use Rattle.lines.proofs.TitleLaws.{units-more, units-end}
 use Rattle.lines.proofs.title.put_units.Statement.{statement}
