@@ -1,4 +1,4 @@
--- Document 01, "Text": the codes' meaning is the printed list. This page says what a list of rows (prior symbol, symbol, code)
+-- SCOPE 4.9 and 4.11: the codes' meaning is the printed list. This page says what a list of rows (prior symbol, symbol, code)
 -- makes of bits; the lists themselves are Printed1 and Printed2.
 use Prim.Native.Nat.{ℕ, _<_}
 use mathlib.Core.List.{List, [], _∷_}

@@ -1,4 +1,4 @@
--- What is shown of a decode table and its printed list.
+-- SCOPE 4.9 to 4.11: what is shown of a decode table and its printed list.
 use mathlib.Core.Path.{_≡_}
 use Prim.Native.Nat.{ℕ, _*_, _<_, _≤_}
 use mathlib.Core.List.{List}

@@ -1,4 +1,4 @@
--- The computed test of a decode table against its printed list, node by node with the rows that lead there: the node stands
+-- SCOPE 4.10: the computed test of a decode table against its printed list, node by node with the rows that lead there: the node stands
 -- inside its tree, each row goes on by a bit, and each leaf has just the one row that ends there, for its symbol. So every walk
 -- ends in a leaf, every printed code leads to its symbol and ends on the leaf, and every leaf's path is a printed code.
 use Prim.Native.Nat.{ℕ, zero, suc, _-_}

@@ -1,4 +1,4 @@
--- Annex C, section C1.2: how a decode table is read. Its first 256 bytes are 128 offsets of trees, one a prior symbol, and a
+-- SCOPE 4.10 (annex C, section C1.2): how a decode table is read. Its first 256 bytes are 128 offsets of trees, one a prior symbol, and a
 -- node of a tree is two bytes, for the bit 0 and for the bit 1.
 use Prim.Native.Nat.{ℕ, _+_, _*_, _-_, _/_}
 use mathlib.Core.List.{List, [], _∷_}

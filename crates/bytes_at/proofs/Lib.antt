@@ -1,3 +1,3 @@
-pub mod ChoiceLaws
 pub mod FieldLaws
+pub mod BitLaws
 pub mod WalkLaws

@@ -1,6 +1,6 @@
 -- Laws of the walks' combinators: nobody above unfolds what has a law here.
 use Prim.Native.Nat.{ℕ, zero, suc, _+_, _-_, _*_, _/_, _≤_, _<_}
-use mathlib.Core.Path.{_≡_, refl, sym, _∙_}
+use mathlib.Core.Path.{_≡_, refl, sym, _∙_, subst}
 use mathlib.Core.List.{List, [], _∷_}
 use mathlib.Core.Bool.{Bool, true, false}
 use native.Mathlib.Numerals.{sub-one}
@@ -9,8 +9,8 @@ use lib.Dec.{leb, eqb}
 use borrow.Author.Tests.{leb-true, eqb-true, le-leb, lt-leb, eq-eqb}
 use Rattle.bytes_at.specs.declared.Walk.{Walk}
 use Rattle.bytes_at.specs.declared.Walk.the-variants.{To, Bad}
-use Rattle.bytes_at.specs.Choices.{pick}
-use Rattle.bytes_at.specs.Walks.{skipTo, bitsTo, fieldsTo, then, many, ends}
+use Rattle.logic.specs.Choices.{pick}
+use Rattle.bytes_at.specs.Walks.{skipTo, bitsTo, then, many, ends, Stands}
 
 -- ---- walks that stand, and walks that do not
 pub to-is : (a b : ℕ) → To a ≡ To b → b ≡ a
@@ -102,3 +102,41 @@ module _ (p : ℕ → Walk) where
   pub many-none : (n at : ℕ) → n ≡ 0 → To at ≡ many p n at
   unfolding many
   many-none n at e = rw e
+
+  -- the first, and the others
+  pub many-inv : (n at e : ℕ) → 0 < n → many p n at ≡ To e → (b : ℕ) × ((p at ≡ To b) × (many p (n - 1) b ≡ To e))
+  unfolding many
+  many-inv zero at e h w = absurd (omega arith)
+  many-inv (suc n) at e h w = rw sub-one (then-inv (p at) (many p n) e w)
+
+  -- on the way past n the place of each is reached
+  pub reached : (i n at e : ℕ) → i ≤ n → many p n at ≡ To e → Stands (many p i at)
+  unfolding many
+  reached zero n at e h w = (at, refl)
+  reached (suc i) zero at e h w = absurd (omega arith)
+  reached (suc i) (suc n) at e h w =
+      let q = then-inv (p at) (many p n) e w in
+      let r = reached i n (q .0) e (omega arith) (q .1 .1) in
+      (r .0, then-to (p at) (many p i) (q .0) (To (r .0)) (q .1 .0) (r .1))
+
+  -- and the one that begins there is passed
+  pub stands-at : (i n at a e : ℕ) → i < n → many p n at ≡ To e → many p i at ≡ To a → Stands (p a)
+  unfolding many
+  stands-at zero zero at a e h w v = absurd (omega arith)
+  stands-at zero (suc n) at a e h w v =
+      let q = then-inv (p at) (many p n) e w in
+      (q .0, subst (λ (x : ℕ). p x ≡ To (q .0)) (sym (to-is at a v)) (q .1 .0))
+  stands-at (suc i) zero at a e h w v = absurd (omega arith)
+  stands-at (suc i) (suc n) at a e h w v =
+      let q = then-inv (p at) (many p n) e w in
+      let r = then-inv (p at) (many p i) a v in
+      let b : q .0 ≡ r .0 = to-is (r .0) (q .0) (sym (r .1 .0) ∙ q .1 .0) in
+      stands-at i n (r .0) a e (omega arith) (subst (λ (x : ℕ). many p n x ≡ To e) b (q .1 .1)) (r .1 .1)
+
+  -- where each ends before a bound, so do they all
+  pub many-in : (most : ℕ) → ((at b : ℕ) → p at ≡ To b → b ≤ most) → (n at b : ℕ) → at ≤ most → many p n at ≡ To b → b ≤ most
+  unfolding many
+  many-in most h zero at b k w = let t = to-is at b w in omega arith
+  many-in most h (suc n) at b k w =
+      let q = then-inv (p at) (many p n) b w in
+      many-in most h n (q .0) b (h at (q .0) (q .1 .0)) (q .1 .1)

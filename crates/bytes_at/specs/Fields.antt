@@ -1,4 +1,4 @@
--- Document 01, "The five kinds": multi-byte fields have their high byte first. A field is read at an offset of the whole
+-- SCOPE 1.1: multi-byte fields have their high byte first. A field is read at an offset of the whole
 -- section, and is 0 past the end, so that every read has a value.
 use Prim.Native.Nat.{ℕ, _+_, _*_}
 use mathlib.Core.List.{List}

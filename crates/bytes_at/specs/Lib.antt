@@ -1,3 +1,3 @@
-pub mod Choices
 pub mod Fields
+pub mod Bits
 pub mod Walks

@@ -1,11 +1,12 @@
--- Document 01, refusal 9: how a walk goes through a container. A walk is given the container's end and the place where it
+-- SCOPE 6, number 9: how a walk goes through a container. A walk is given the container's end and the place where it
 -- starts; it answers the place where it then stands (To), or the offset of the field to blame (Bad).
 use Prim.Native.Nat.{ℕ, zero, suc, _+_, _-_, _*_, _/_}
+use mathlib.Core.Path.{_≡_}
 use mathlib.Core.List.{List, [], _∷_}
 use lib.Dec.{eqb, leb}
 use Rattle.bytes_at.specs.declared.Walk.{Walk}
 use Rattle.bytes_at.specs.declared.Walk.the-variants.{To, Bad}
-use Rattle.bytes_at.specs.Choices.{pick}
+use Rattle.logic.specs.Choices.{pick}
 
 -- past n bytes of a container that ends at `end`: the one meaning of "runs past its container". The field to blame stands
 -- `back` bytes before: 0 for a field of its own, and for a part whose length was read, the bytes of the length field
@@ -35,3 +36,7 @@ many p (suc n) at = then (p at) (many p n)
 -- no byte is left over: to blame is the first that is
 unfoldable pub ends : ℕ → ℕ → Walk
 ends end at = pick (eqb at end) (To at) (Bad at)
+
+-- a walk that stands
+abbrev pub Stands : Walk → Type 0
+Stands w = (e : ℕ) × (w ≡ To e)

@@ -2,7 +2,8 @@
 // here, so that the walks above have none.
 ghost use mathlib.Core.Path.{_≡_};
 ghost use mathlib.Core.List.{[], _∷_};
-ghost use Prim.Native.Nat.{_-_, _<_};
+ghost use Prim.Native.Nat.{_-_, _*_, _<_};
+ghost use Rattle.bytes_at.specs.Bits.{bitsAt};
 ghost use Rattle.bytes_at.specs.Fields.{byteAt, wordAt, longAt};
 ghost use Rattle.bytes_at.specs.Walks.{skipTo, fieldsTo, ends};
 
@@ -12,14 +13,15 @@ pub enum Walk {
     Bad(usize),
 }
 
+// A byte, and two and four of them as one number, by their bytes and by their bits: 0 past the end.
 pub fn byte(s: &[u8], i: usize) -> usize
-    ensures { λ r. ⌜ (r ≡ byteAt (now (s .entry)) i) × (r < 256) ⌝ }
+    ensures { λ r. ⌜ (r ≡ byteAt (now (s .entry)) i) × ((r < 256) × (bitsAt (now (s .entry)) (8 * i) 8 ≡ r)) ⌝ }
 {
     if i < s.len() { s[i] as usize } else { 0 }
 }
 
 pub fn word(s: &[u8], i: usize) -> usize
-    ensures { λ r. ⌜ (r ≡ wordAt (now (s .entry)) i) × (r < 65536) ⌝ }
+    ensures { λ r. ⌜ (r ≡ wordAt (now (s .entry)) i) × ((r < 65536) × (bitsAt (now (s .entry)) (8 * i) 16 ≡ r)) ⌝ }
 {
     if i < s.len() {
         byte(s, i) * 256 + byte(s, i + 1)
@@ -29,7 +31,7 @@ pub fn word(s: &[u8], i: usize) -> usize
 }
 
 pub fn long(s: &[u8], i: usize) -> usize
-    ensures { λ r. ⌜ (r ≡ longAt (now (s .entry)) i) × (r < 4294967296) ⌝ }
+    ensures { λ r. ⌜ (r ≡ longAt (now (s .entry)) i) × ((r < 4294967296) × (bitsAt (now (s .entry)) (8 * i) 32 ≡ r)) ⌝ }
 {
     if i < s.len() {
         word(s, i) * 65536 + word(s, i + 2)
@@ -52,11 +54,11 @@ pub fn word_back(s: &[u8], b: usize) -> usize
     if 2 <= b { word(s, b - 2) } else { word(s, 0) }
 }
 
-// The place `back` bytes before another.
-fn earlier(at: usize, back: usize) -> usize
-    ensures { λ r. ⌜ r ≡ at - back ⌝ }
+// x less y, and 0 where y is more.
+pub fn less(x: usize, y: usize) -> usize
+    ensures { λ r. ⌜ r ≡ x - y ⌝ }
 {
-    if back <= at { at - back } else { 0 }
+    if y <= x { x - y } else { 0 }
 }
 
 // Past n bytes, if the container, which ends at `end`, has them; else the field `back` bytes before
@@ -68,10 +70,10 @@ pub fn skip(back: usize, at: usize, n: usize, end: usize) -> Walk
         if n <= end - at {
             Walk::To(at + n)
         } else {
-            Walk::Bad(earlier(at, back))
+            Walk::Bad(less(at, back))
         }
     } else {
-        Walk::Bad(earlier(at, back))
+        Walk::Bad(less(at, back))
     }
 }
 
@@ -79,7 +81,7 @@ pub fn skip(back: usize, at: usize, n: usize, end: usize) -> Walk
 pub fn zero_count(back: usize, at: usize) -> Walk
     ensures { λ r. ⌜ r ≡ Walk.Bad (at - back) ⌝ }
 {
-    Walk::Bad(earlier(at, back))
+    Walk::Bad(less(at, back))
 }
 
 fn wide(x: u8) -> usize

@@ -1,6 +1,12 @@
-// A part of lent bytes, handed back without a copy.
+// A part of lent bytes: where it stands, and its bytes, handed back without a copy.
 ghost use mathlib.Core.Path.{_≡_};
 ghost use lib.ListN.{take, drop};
+
+// Where a part begins, and how many bytes it has.
+pub struct Part {
+    pub start: usize,
+    pub length: usize,
+}
 
 // The bytes from `start` on, `length` of them, as far as they are there.
 pub fn part_of(s: &[u8], start: usize, length: usize) -> &[u8]

@@ -1,4 +1,4 @@
--- Every call ends in a result or in one numbered refusal: what a call answers, in the document's numbers and values.
+-- SCOPE 6.1 and 12.3: every call ends in a result or in one numbered refusal. What a call answers, in these numbers and values.
 use Prim.Native.Nat.{ℕ}
 
 pub data Outcome (A : Type 0) : Type 0 where

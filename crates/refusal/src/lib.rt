@@ -1,4 +1,4 @@
-// The refusals of document 01, by name, and the number that the document gives each.
+// The refusals of SCOPE 6, by name, and the number that its table gives each.
 ghost use mathlib.Core.Path.{_≡_};
 ghost use Rattle.refusal.specs.Numbers.{numberOf};
 
@@ -30,7 +30,7 @@ pub enum Refusal {
 }
 
 impl Refusal {
-    // The document's number.
+    // The number of SCOPE 6.
     pub fn number(self) -> u8
         ensures { λ r. ⌜ r ≡ numberOf self ⌝ }
     {

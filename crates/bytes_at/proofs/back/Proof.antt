@@ -17,7 +17,7 @@ returns c = search needs
 
 returns-2 : tie.Need-returns-2
 returns-2 c = let a = c .before .before .before .args in
-    let e : a .b - a .k ≡ 0 = omega arith in (rw e (c .byte2 .ensures .0), c .byte2 .ensures .1)
+    let e : a .b - a .k ≡ 0 = omega arith in (rw e (c .byte2 .ensures .0), c .byte2 .ensures .1 .0)
 
 pub back-spec : {M : Type 1} → statement M
 back-spec = tie.close (tie.spec byte-requires byte-requires-2 returns returns-2)

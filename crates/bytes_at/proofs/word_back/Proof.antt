@@ -17,7 +17,7 @@ returns c = search needs
 
 returns-2 : tie.Need-returns-2
 returns-2 c = let a = c .before .before .before .args in
-    let e : a .b - 2 ≡ 0 = omega arith in (rw e (c .word2 .ensures .0), c .word2 .ensures .1)
+    let e : a .b - 2 ≡ 0 = omega arith in (rw e (c .word2 .ensures .0), c .word2 .ensures .1 .0)
 
 pub word-back-spec : {M : Type 1} → statement M
 word-back-spec = tie.close (tie.spec word-requires word-requires-2 returns returns-2)

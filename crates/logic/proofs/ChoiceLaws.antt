@@ -4,7 +4,7 @@ use mathlib.Core.Path.{_≡_}
 use mathlib.Core.Bool.{true, false}
 use lib.Dec.{eqb}
 use borrow.Author.Tests.{lt-ltb, le-ltb, eq-eqb, ne-eqb}
-use Rattle.bytes_at.specs.Choices.{ifLt, ifEq}
+use Rattle.logic.specs.Choices.{ifLt, ifEq}
 
 module _ {A : Type 0} (x y : ℕ) (a b : A) {r : A} where
   pub lt-yes : x < y → r ≡ a → r ≡ ifLt x y a b

@@ -1,0 +1,8 @@
+-- The numbers of a row.
+use Prim.Native.Nat.{ℕ}
+use mathlib.Core.List.{List, [], _∷_}
+use Rattle.part.specs.declared.Part.{Part}
+
+-- where a part begins, and how many bytes it has
+unfoldable pub partRow : Part → List ℕ
+partRow p = p .start ∷ p .length ∷ []
