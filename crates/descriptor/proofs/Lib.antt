@@ -1,1 +1,2 @@
 pub mod StopLaws
+pub mod ListLaws

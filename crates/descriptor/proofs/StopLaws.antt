@@ -5,13 +5,14 @@ use mathlib.Core.List.{List, [], _∷_}
 use native.Mathlib.Omega.{arith}
 use Rattle.bytes_at.specs.declared.Walk.{Walk}
 use Rattle.bytes_at.specs.declared.Walk.the-variants.{To, Bad}
-use Rattle.bytes_at.proofs.ChoiceLaws.{lt-yes, lt-no}
+use Rattle.logic.proofs.ChoiceLaws.{lt-yes, lt-no}
 use Rattle.bytes_at.proofs.WalkLaws.{seq-bad, then-to}
 use Rattle.format.specs.Lawful.{unto}
 use Rattle.format.specs.Formats.{last, lastButOne, both, filledBy, walks}
 use Rattle.format.proofs.RepeatLaws.{list-none, list-first}
 use Rattle.format.proofs.FormatLaws.{head-forward}
-use Rattle.descriptor.specs.Descriptors.{descriptor, content, stopped}
+use Rattle.descriptor.specs.Descriptors.{descriptor, content}
+use Rattle.descriptor.specs.Inner.{stopped}
 
 module _ (p : ℕ → ℕ → Walk) (end at : ℕ) where
   -- at the end it stops

@@ -1,25 +1,24 @@
--- Document 01, "Bodies": a descriptor list is a first descriptor and the rest; the content advisory, tag 0x87, is judged in an
+-- SCOPE 2.6 to 2.8: a descriptor list is a first descriptor and the rest; the content advisory, tag 0x87, is judged in an
 -- EIT, and all other tags are opaque.
-use Prim.Native.Nat.{ℕ, _%_}
+use Prim.Native.Nat.{ℕ}
 use mathlib.Core.Path.{refl}
 use mathlib.Core.List.{[], _∷_}
 use native.Mathlib.Omega.{arith}
+use lib.ListN.{length}
 use lib.Dec.{eqb}
-use Rattle.bytes_at.specs.declared.Walk.{Walk}
-use Rattle.bytes_at.specs.declared.Walk.the-variants.{Bad}
-use Rattle.bytes_at.specs.Choices.{ifLt}
-use Rattle.bytes_at.specs.Walks.{ends}
-use Rattle.format.specs.Formats.{One, Format, Filling, Reader, last, lastButOne, lastWord, through, both, fields, head, filled, filledBy, seq, times, exact, any, choice, list}
-use Rattle.format.proofs.FormatLaws.{head-full}
+use Rattle.format.specs.Formats.{One, Format, Filling, last, lastButOne, both, filledBy, seq, exact, any, choice, list, Full}
+use Rattle.format.specs.Values.{bits, reserved}
+use Rattle.format.specs.Named.{named}
+use Rattle.format.specs.Told.{Tells, told, told-full, all8, counting, few, sized12, sized10}
 use Rattle.strings.specs.Strings.{sizedText}
 
 -- dimension 8, r 4, value 4
 unfoldable pub dimension : Format One
-dimension = fields (8 ∷ 8 ∷ []) 2 refl
+dimension = named (bits 8 ∷ reserved 4 ∷ bits 4 ∷ []) 2 refl
 
 -- region 8, dimension count 8, and its dimensions
 unfoldable pub rated : Format One
-rated = head (8 ∷ 8 ∷ []) 2 refl last (times dimension)
+rated = counting (bits 8 ∷ []) 1 refl dimension
 
 -- a region with its dimensions, and that region's text with an 8-bit length
 unfoldable pub region : Format One
@@ -27,24 +26,40 @@ region = seq rated sizedText
 
 -- r 2, region count 6, and the regions
 unfoldable pub advisory : Format One
-advisory = head (8 ∷ []) 1 refl (through (λ n. n % 64) last) (times region)
+advisory = few (reserved 2 ∷ []) 6 refl region
 
 -- what stands in a descriptor of a tag: where the tag is the judged one, an advisory that fills it, and else any bytes
 unfoldable pub content : ℕ → Filling ℕ
 content judged = choice (eqb judged) (exact advisory) any
 
 -- tag 8, length 8, that many bytes
+pub tag-tells : Tells (bits 8 ∷ []) 8 2 (both last lastButOne) (λ v m. (m, v .0))
+tag-tells h l z = let a = all8 h 1 z in let b = all8 h 0 z in λ i. (a i, b i)
+
+module _ (judged : ℕ) where
+  abbrev pub tagged : Format One
+  tagged = told (bits 8 ∷ []) 8 2 refl (both last lastButOne) (λ v m. (m, v .0)) tag-tells (filledBy 1 (content judged))
+      (λ x. length (content judged .enc x)) (λ v m x o. o .0)
+
+  pub tagged-full : Full tagged
+  tagged-full = told-full (bits 8 ∷ []) 8 2 refl (both last lastButOne) (λ v m. (m, v .0)) tag-tells (filledBy 1 (content judged))
+      (λ x. length (content judged .enc x)) (λ v m x o. o .0) (omega arith)
+
 unfoldable pub descriptor : ℕ → Format One
-descriptor judged = head (8 ∷ 8 ∷ []) 2 refl (both last lastButOne) (filledBy 1 (content judged))
+descriptor judged = tagged judged
 
 -- a descriptor list, which fills its container
 unfoldable pub descriptors : ℕ → Filling One
 unfolding descriptor
-descriptors judged = list (descriptor judged) (head-full (8 ∷ 8 ∷ []) 2 refl (both last lastButOne) (filledBy 1 (content judged)) (omega arith))
+descriptors judged = list (descriptor judged) (tagged-full judged)
 
--- reserved bits, a length in the low bits of 16 (below m, which is 4096 or 1024), and a descriptor list of that length
-unfoldable pub sizedDescriptors : ℕ → ℕ → Format One
-sizedDescriptors judged m = head (16 ∷ []) 2 refl (through (λ n. n % m) lastWord) (filled 2 (descriptors judged))
+-- r 4, descriptors_length 12, and a descriptor list of that length
+unfoldable pub list12 : ℕ → Format One
+list12 judged = sized12 (descriptors judged)
+
+-- r 6, descriptors_length 10, and a descriptor list of that length
+unfoldable pub list10 : ℕ → Format One
+list10 judged = sized10 (descriptors judged)
 
 -- the tag that is judged in the events of an EIT
 abbrev pub contentAdvisory : ℕ
@@ -53,7 +68,3 @@ contentAdvisory = 0x87
 -- in the other tables no tag is judged: 256 is none
 abbrev pub noTag : ℕ
 noTag = 256
-
--- what a walk that stopped at a place means: before the container's end it failed by the field x
-unfoldable pub stopped : ℕ → ℕ → ℕ → Walk
-stopped end place x = ifLt place end (Bad x) (ends end place)

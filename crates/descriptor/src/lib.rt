@@ -1,10 +1,12 @@
-// Judging descriptor lists and the content advisory.
+// Judging descriptor lists and the content advisory, and where a list with its length stands.
 use bytes_at::Walk;
 use bytes_at::at_end;
 use bytes_at::back;
 use bytes_at::skip;
 use bytes_at::skip_fields;
+use bytes_at::word;
 use bytes_at::word_back;
+use part::Part;
 use strings::sized_text;
 ghost use mathlib.Core.Path.{_≡_};
 ghost use mathlib.Core.List.{[], _∷_};
@@ -12,7 +14,10 @@ ghost use Prim.Native.Nat.{ℕ, _+_, _<_, _≤_};
 ghost use Rattle.bytes_at.specs.Walks.{many, fieldsTo};
 ghost use Rattle.format.specs.Lawful.{unto};
 ghost use Rattle.format.specs.Formats.{walks, walksAll};
-ghost use Rattle.descriptor.specs.Descriptors.{rated, region, advisory, content, descriptor, descriptors, sizedDescriptors, stopped};
+ghost use Rattle.descriptor.specs.Descriptors.{rated, region, advisory, content, descriptor, descriptors, list12, list10};
+ghost use Rattle.descriptor.specs.Places.{listAt, listEnd};
+ghost use Rattle.descriptor.specs.Inner.{sizedDescriptors, stopped};
+ghost use lib.ListN.{length};
 
 // The tag that is judged in the events of an EIT, and what is given where none is.
 pub const CONTENT_ADVISORY: usize = 0x87;
@@ -145,7 +150,7 @@ pub fn whole_descriptors(s: &[u8], judged: usize, end: usize, at: usize) -> Walk
 }
 
 // A length in the low bits of 16, below `m`, and a descriptor list of that length.
-pub fn sized_descriptors(s: &[u8], judged: usize, m: usize, end: usize, at: usize) -> Walk
+fn sized_descriptors(s: &[u8], judged: usize, m: usize, end: usize, at: usize) -> Walk
     requires { ⌜ 0 < m ⌝ }
     ensures { λ r. ⌜ r ≡ walks (sizedDescriptors judged m) (now (s .entry)) end at ⌝ }
 {
@@ -158,4 +163,38 @@ pub fn sized_descriptors(s: &[u8], judged: usize, m: usize, end: usize, at: usiz
         return v;
     };
     whole_descriptors(s, judged, e, b)
+}
+
+// The list after 4 reserved bits and its length of 12.
+pub fn whole_list12(s: &[u8], judged: usize, end: usize, at: usize) -> Walk
+    ensures { λ r. ⌜ r ≡ walks (list12 judged) (now (s .entry)) end at ⌝ }
+{
+    sized_descriptors(s, judged, 4096, end, at)
+}
+
+// The list after 6 reserved bits and its length of 10.
+pub fn whole_list10(s: &[u8], judged: usize, end: usize, at: usize) -> Walk
+    ensures { λ r. ⌜ r ≡ walks (list10 judged) (now (s .entry)) end at ⌝ }
+{
+    sized_descriptors(s, judged, 1024, end, at)
+}
+
+// Where the list stands whose length is the low bits, below m, of the word at `at`, which is in the
+// section or less than an entry behind it.
+pub fn list_at(s: &[u8], m: usize, at: usize) -> Part
+    requires { ⌜ ((0 < m) × (m ≤ 4096)) × (at ≤ length (now s) + 512) ⌝ }
+    ensures { λ r. ⌜ (r ≡ listAt m (now (s .entry)) at) × ((r .start ≤ at + 2) × (r .length < 4096)) ⌝ }
+{
+    Part {
+        start: at + 2,
+        length: word(s, at) % m,
+    }
+}
+
+// Where it ends.
+pub fn list_end(s: &[u8], m: usize, at: usize) -> usize
+    requires { ⌜ ((0 < m) × (m ≤ 4096)) × (at ≤ length (now s) + 512) ⌝ }
+    ensures { λ r. ⌜ (r ≡ listEnd m (now (s .entry)) at) × (r ≤ at + 4098) ⌝ }
+{
+    at + 2 + word(s, at) % m
 }

@@ -11,7 +11,7 @@ use lib.Dec.{leb}
 use borrow.Author.Tests.{leb-true}
 use Rattle.bytes_at.specs.declared.Walk.{Walk}
 use Rattle.bytes_at.specs.declared.Walk.the-variants.{To, Bad}
-use Rattle.bytes_at.specs.Choices.{pick}
+use Rattle.logic.specs.Choices.{pick}
 use Rattle.bytes_at.specs.Walks.{skipTo, bitsTo, fieldsTo, then}
 use Rattle.bytes_at.proofs.WalkLaws.{skip-fits, skip-past, bits-on, bits-past, bits-done}
 use Rattle.format.specs.Lawful.{total}

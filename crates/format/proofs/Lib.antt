@@ -1,3 +1,5 @@
 pub mod FieldLaws
 pub mod RepeatLaws
 pub mod FormatLaws
+pub mod RelocationLaws
+pub mod SizedLaws

@@ -2,7 +2,7 @@
 -- accepts exactly the bytes of well-formed values. A walk reads a head from behind, as code does, and blames the field that
 -- fails: a field that is cut by its own offset, a length that promises too much and a count that may not be 0 by theirs.
 use Prim.Native.Nat.{ℕ, suc, _+_, _-_, _*_, _<_}
-use mathlib.Core.Path.{_≡_, ap}
+use mathlib.Core.Path.{_≡_, sym, ap, _∙_}
 use mathlib.Core.Logic.{_⊎_}
 use mathlib.Core.List.{List, _++_}
 use mathlib.Core.Option.{Option}
@@ -11,13 +11,13 @@ use native.Mathlib.Omega.{arith}
 use lib.ListN.{length}
 use lib.Dec.{eqb}
 use Rattle.bytes_at.specs.declared.Walk.the-variants.{To, Bad}
-use Rattle.bytes_at.specs.Choices.{pick}
+use Rattle.logic.specs.Choices.{pick}
 use Rattle.bytes_at.specs.Fields.{byteAt, wordAt}
 use Rattle.bytes_at.specs.Walks.{skipTo, fieldsTo, then, many, ends}
 use Rattle.format.specs.Lawful.{Walker, Lies, Bytes, Lawful, Fills, total, All, encs, OkOpt, encOpt, OkSum, encSum, unto}
 use Rattle.format.specs.Laws.OfBytes.{fields-law, raw-law, lies-byte}
 use Rattle.format.specs.Laws.OfHeads.{head-law, seq-law, via-law}
-use Rattle.format.specs.Laws.OfContainers.{filled-law, exact-law, any-law, opt-law, choice-law}
+use Rattle.format.specs.Laws.OfContainers.{filled-law, exact-law, before-law, under-law, any-law, opt-law, choice-law}
 use Rattle.format.specs.Laws.OfRepeats.{times-law, some-law, list-law}
 
 -- what is told where nothing is
@@ -170,6 +170,16 @@ exact f = record {
   law = λ u. exact-law (f .law u);
 }
 
+-- a format, and one that takes what is left of the container
+abbrev pub before : Format One → Filling One → Filling One
+before f g = record {
+  Val = f .Val × g .Val;
+  Ok = λ u x. f .Ok u (x .0) × g .Ok u (x .1);
+  enc = λ x. f .enc (x .0) ++ g .enc (x .1);
+  walk = λ u s end at. then (f .walk u s end at) (g .walk u s end);
+  law = λ u. before-law (f .law u) (g .law u);
+}
+
 -- whatever bytes there are
 abbrev pub any : Filling One
 any = record { Val = List ℕ; Ok = λ u x. Bytes x; enc = λ x. x; walk = λ u s end at. To end; law = λ u. any-law }
@@ -223,6 +233,27 @@ via f {Y} {OkY} r = record {
   enc = λ y. f .enc (r .to y);
   walk = f .walk;
   law = λ u. via-law (f .law u) (r .to) (r .good) (r .onto) (r .inj);
+}
+
+-- the same bytes and walk, and as values those of a record
+abbrev pub under : (f : Format One) {Y : Type 0} (to : Y → f .Val) (from : f .Val → Y) → ((x : f .Val) → to (from x) ≡ x)
+    → ((y : Y) → from (to y) ≡ y) → Format One
+under f {Y} to from a b = via f {Y = Y} {OkY = λ y. f .Ok (record {}) (to y)} (record {
+  to = to;
+  good = λ y o. o;
+  onto = λ x o. (from x, (rw (a x) o, a x));
+  inj = λ y z o r e. sym (b y) ∙ ap from e ∙ b z;
+})
+
+-- the same for a format that takes its whole container
+abbrev pub underAll : (f : Filling One) {Y : Type 0} (to : Y → f .Val) (from : f .Val → Y) → ((x : f .Val) → to (from x) ≡ x)
+    → ((y : Y) → from (to y) ≡ y) → Filling One
+underAll f {Y} to from a b = record {
+  Val = Y;
+  Ok = λ u y. f .Ok u (to y);
+  enc = λ y. f .enc (to y);
+  walk = f .walk;
+  law = λ u. under-law (f .law u) to from a b;
 }
 
 -- the walk of a format of which nothing is told: what code computes

@@ -10,7 +10,7 @@ use lib.ListN.{length, take, drop}
 use lib.Dec.{ltb}
 use Rattle.bytes_at.specs.declared.Walk.{Walk}
 use Rattle.bytes_at.specs.declared.Walk.the-variants.{To}
-use Rattle.bytes_at.specs.Choices.{pick}
+use Rattle.logic.specs.Choices.{pick}
 use Rattle.bytes_at.specs.Fields.{byteAt}
 use Rattle.bytes_at.specs.Walks.{then, ends}
 
@@ -32,7 +32,8 @@ Bytes s = (i : ℕ) → byteAt s i < 256
 
 -- The walk of a format that tells by itself where it ends. X are the values, Ok says which of them are well formed, enc gives
 -- their bytes. Sound: an encoding that lies within the container is walked. Complete: what is walked is an encoding. Unique: of
--- one value only, whatever follows. Within: a walk never leaves its container.
+-- one value only, whatever follows. Within: a walk never leaves its container. Bytes: the
+-- numbers of an encoding are bytes.
 pub record Lawful {X : Type 0} (W : Walker) (Ok : X → Type 0) (enc : X → List ℕ) : Type 0 where
   pub sound : (s : List ℕ) (end at : ℕ) (x : X) → Ok x → Lies (enc x) s at → at + length (enc x) ≤ end
       → W s end at ≡ To (at + length (enc x))
@@ -40,6 +41,7 @@ pub record Lawful {X : Type 0} (W : Walker) (Ok : X → Type 0) (enc : X → Lis
       → (x : X) × (Ok x × (Lies (enc x) s at × (e ≡ at + length (enc x))))
   pub unique : (x y : X) (p q : List ℕ) → Ok x → Ok y → enc x ++ p ≡ enc y ++ q → x ≡ y
   pub within : (s : List ℕ) (end at e : ℕ) → at ≤ end → W s end at ≡ To e → (at ≤ e) × (e ≤ end)
+  pub bytes : (x : X) → Ok x → Bytes (enc x)
 
 -- The walk of a format that takes its whole container. Unique: of one value only, given the length. Whole: a walk that stands,
 -- stands at the container's end.
@@ -49,6 +51,7 @@ pub record Fills {X : Type 0} (W : Walker) (Ok : X → Type 0) (enc : X → List
       → (x : X) × (Ok x × (Lies (enc x) s at × (end ≡ at + length (enc x))))
   pub unique : (x y : X) → Ok x → Ok y → enc x ≡ enc y → x ≡ y
   pub whole : (s : List ℕ) (end at e : ℕ) → W s end at ≡ To e → e ≡ end
+  pub bytes : (x : X) → Ok x → Bytes (enc x)
 
 -- the bits of fields of these widths
 abbrev pub total : List ℕ → ℕ

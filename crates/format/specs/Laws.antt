@@ -2,3 +2,4 @@ pub mod OfBytes
 pub mod OfHeads
 pub mod OfContainers
 pub mod OfRepeats
+pub mod OfValues

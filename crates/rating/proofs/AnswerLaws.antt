@@ -10,16 +10,16 @@ use native.Mathlib.Omega.{arith}
 use lib.Dec.{eqb}
 use borrow.Author.Tests.{eqb-true}
 use Rattle.bytes_at.specs.Fields.{byteAt}
-use Rattle.bytes_at.specs.Choices.{pick, ifEq}
-use Rattle.bytes_at.proofs.ChoiceLaws.{lt-no}
+use Rattle.logic.specs.Choices.{pick, ifEq}
+use Rattle.logic.proofs.ChoiceLaws.{lt-no}
 use Rattle.format.specs.Lawful.{Bytes}
 use Rattle.rating.specs.declared.Rating.{Rating}
 use Rattle.rating.specs.declared.Rating.the-variants.{NoAdvisory, RegionAbsent, DimensionAbsent, Value}
-use Rattle.rating.specs.declared.Found.{Found}
-use Rattle.rating.specs.declared.Found.the-variants as found
-use Rattle.rating.specs.declared.Part.{Part}
-use Rattle.rating.specs.declared.Part.the-variants as part
-use Rattle.rating.specs.Ratings.{Rated, noAdvisory, regionAbsent, dimensionAbsent, value, ratedOf, Descriptor, foundOf, Place, partOf, descriptorSize, regionSize, first, advisoryIn, regionIn, ratedByRegion, ratingIn, textAt, textIn}
+use Rattle.rating.specs.declared.SoughtDescriptor.{SoughtDescriptor}
+use Rattle.rating.specs.declared.SoughtDescriptor.the-variants as found
+use Rattle.rating.specs.declared.SoughtText.{SoughtText}
+use Rattle.rating.specs.declared.SoughtText.the-variants as part
+use Rattle.rating.specs.Ratings.{Rated, noAdvisory, regionAbsent, dimensionAbsent, value, ratedOf, Descriptor, soughtDescriptor, Place, soughtText, descriptorSize, regionSize, first, advisoryIn, regionIn, ratedByRegion, ratingIn, textAt, textIn}
 use Rattle.rating.proofs.FirstLaws.{first-past}
 
 -- ---- an answer's meaning is that of one answer only
@@ -41,27 +41,27 @@ rating-back (Value v) = refl
 pub rated-once : (a b : Rating) → ratedOf a ≡ ratedOf b → a ≡ b
 rated-once = once-by ratedOf ratingOf rating-back
 
-abbrev descriptorOf : Option Descriptor → Found
+abbrev descriptorOf : Option Descriptor → SoughtDescriptor
 descriptorOf (some d) = found.Is (d .tag) (d .start) (d .size)
 descriptorOf none = found.Nothing
 
-found-back : (r : Found) → descriptorOf (foundOf r) ≡ r
+found-back : (r : SoughtDescriptor) → descriptorOf (soughtDescriptor r) ≡ r
 found-back (found.Is t a n) = refl
 found-back found.Nothing = refl
 
-pub found-once : (a b : Found) → foundOf a ≡ foundOf b → a ≡ b
-found-once = once-by foundOf descriptorOf found-back
+pub found-once : (a b : SoughtDescriptor) → soughtDescriptor a ≡ soughtDescriptor b → a ≡ b
+found-once = once-by soughtDescriptor descriptorOf found-back
 
-abbrev placeOf : Option Place → Part
+abbrev placeOf : Option Place → SoughtText
 placeOf (some p) = part.Is (p .start) (p .size)
 placeOf none = part.Nothing
 
-part-back : (r : Part) → placeOf (partOf r) ≡ r
+part-back : (r : SoughtText) → placeOf (soughtText r) ≡ r
 part-back (part.Is a n) = refl
 part-back part.Nothing = refl
 
-pub part-once : (a b : Part) → partOf a ≡ partOf b → a ≡ b
-part-once = once-by partOf placeOf part-back
+pub part-once : (a b : SoughtText) → soughtText a ≡ soughtText b → a ≡ b
+part-once = once-by soughtText placeOf part-back
 
 -- ---- what a search for x answers
 either : {A : Type 0} (P : A → Type 0) (t : Bool) (a b : A) → (t ≡ true → P a) → P b → P (pick t a b)

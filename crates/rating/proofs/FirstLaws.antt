@@ -9,7 +9,7 @@ use native.Mathlib.Numerals.{sub-one}
 use native.Mathlib.Omega.{arith}
 use lib.ListN.{length}
 use Rattle.bytes_at.specs.Fields.{byteAt}
-use Rattle.bytes_at.proofs.ChoiceLaws.{lt-yes, lt-no, eq-yes, eq-no}
+use Rattle.logic.proofs.ChoiceLaws.{lt-yes, lt-no, eq-yes, eq-no}
 use Rattle.bytes_at.proofs.FieldLaws.{past}
 use Rattle.rating.specs.Ratings.{descriptorSize, ratedSize, regionSize, first, descriptorAt, descriptorIn}
 

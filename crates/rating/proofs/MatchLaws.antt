@@ -8,7 +8,7 @@ use native.Mathlib.Omega.{arith}
 use Rattle.bytes_at.specs.declared.Walk.{Walk}
 use Rattle.bytes_at.specs.declared.Walk.the-variants.{To}
 use Rattle.bytes_at.specs.Fields.{byteAt}
-use Rattle.bytes_at.specs.Choices.{ifLt, ifEq}
+use Rattle.logic.specs.Choices.{ifLt, ifEq}
 use Rattle.bytes_at.specs.Walks.{fieldsTo, many}
 use Rattle.bytes_at.proofs.WalkLaws.{to-is, then-to, then-inv, skipped}
 use Rattle.format.specs.Formats.{walks, walksAll}

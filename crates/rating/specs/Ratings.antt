@@ -1,17 +1,17 @@
--- Document 01, "Three sorts of blank": the rating question, and what else is asked of a descriptor list. Places are offsets of
+-- SCOPE 3.3 and 3.4: the rating question, and what else is asked of a descriptor list. Places are offsets of
 -- the whole section s; the list stands from `from` to `end`.
 use Prim.Native.Nat.{ℕ, zero, suc, _+_, _*_, _%_}
 use mathlib.Core.List.{List}
 use mathlib.Core.Option.{Option, none, some}
 use Rattle.bytes_at.specs.Fields.{byteAt}
-use Rattle.bytes_at.specs.Choices.{ifLt, ifEq}
+use Rattle.logic.specs.Choices.{ifLt, ifEq}
 use Rattle.descriptor.specs.Descriptors.{contentAdvisory}
 use Rattle.rating.specs.declared.Rating.{Rating}
 use Rattle.rating.specs.declared.Rating.the-variants.{NoAdvisory, RegionAbsent, DimensionAbsent, Value}
-use Rattle.rating.specs.declared.Found.{Found}
-use Rattle.rating.specs.declared.Found.the-variants as found
-use Rattle.rating.specs.declared.Part.{Part}
-use Rattle.rating.specs.declared.Part.the-variants as part
+use Rattle.rating.specs.declared.SoughtDescriptor.{SoughtDescriptor}
+use Rattle.rating.specs.declared.SoughtDescriptor.the-variants as found
+use Rattle.rating.specs.declared.SoughtText.{SoughtText}
+use Rattle.rating.specs.declared.SoughtText.the-variants as part
 
 -- a rating question answers: no advisory, region absent, dimension absent, or a value
 pub data Rated : Type 0 where
@@ -32,18 +32,18 @@ pub record Descriptor : Type 0 where
   pub start : ℕ
   pub size : ℕ
 
-abbrev pub foundOf : Found → Option Descriptor
-foundOf (found.Is t a n) = some (record { tag = t; start = a; size = n })
-foundOf found.Nothing = none
+abbrev pub soughtDescriptor : SoughtDescriptor → Option Descriptor
+soughtDescriptor (found.Is t a n) = some (record { tag = t; start = a; size = n })
+soughtDescriptor found.Nothing = none
 
 -- where a text stands
 pub record Place : Type 0 where
   pub start : ℕ
   pub size : ℕ
 
-abbrev pub partOf : Part → Option Place
-partOf (part.Is a n) = some (record { start = a; size = n })
-partOf part.Nothing = none
+abbrev pub soughtText : SoughtText → Option Place
+soughtText (part.Is a n) = some (record { start = a; size = n })
+soughtText part.Nothing = none
 
 -- a descriptor: tag 8, length 8, that many bytes
 unfoldable pub descriptorSize : List ℕ → ℕ → ℕ

@@ -7,7 +7,7 @@ ghost use mathlib.Core.Path.{_≡_};
 ghost use mathlib.Core.Option.{none};
 ghost use Prim.Native.Nat.{_+_, _-_, _<_, _≤_};
 ghost use Rattle.bytes_at.specs.Fields.{byteAt};
-ghost use Rattle.rating.specs.Ratings.{descriptorSize, ratedSize, regionSize, first, ratedOf, ratingIn, foundOf, descriptorIn, partOf, textAt, textIn};
+ghost use Rattle.rating.specs.Ratings.{descriptorSize, ratedSize, regionSize, first, ratedOf, ratingIn, soughtDescriptor, descriptorIn, soughtText, textAt, textIn};
 
 // What a rating question answers. Absent is not 0.
 pub enum Rating {
@@ -18,7 +18,7 @@ pub enum Rating {
 }
 
 // A descriptor, by its tag and the place of its content.
-pub enum Found {
+pub enum SoughtDescriptor {
     Is {
         tag: usize,
         start: usize,
@@ -27,8 +27,8 @@ pub enum Found {
     Nothing,
 }
 
-// A part of the section.
-pub enum Part {
+// Where a text stands.
+pub enum SoughtText {
     Is { start: usize, size: usize },
     Nothing,
 }
@@ -113,18 +113,18 @@ pub fn rating_in(s: &[u8], region: usize, dimension: usize, end: usize, from: us
 }
 
 // Descriptor number k, counted from 0.
-pub fn descriptor_in(s: &[u8], end: usize, from: usize, k: usize) -> Found
-    ensures { λ r. ⌜ foundOf r ≡ descriptorIn (now (s .entry)) end k from ⌝ }
+pub fn descriptor_in(s: &[u8], end: usize, from: usize, k: usize) -> SoughtDescriptor
+    ensures { λ r. ⌜ soughtDescriptor r ≡ descriptorIn (now (s .entry)) end k from ⌝ }
 {
     let mut at = from;
     let mut left = k;
     loop {
         let size = descriptor_size(s, at);
         if room(at, end) < size {
-            return Found::Nothing;
+            return SoughtDescriptor::Nothing;
         }
         if left == 0 {
-            return Found::Is {
+            return SoughtDescriptor::Is {
                 tag: byte(s, at),
                 start: at + 2,
                 size: byte(s, at + 1),
@@ -136,19 +136,19 @@ pub fn descriptor_in(s: &[u8], end: usize, from: usize, k: usize) -> Found
 }
 
 // The text of the first such region of n from a place, which are to end at `close`.
-fn text_of_first(s: &[u8], region: usize, n: usize, close: usize, from: usize) -> Part
-    ensures { λ r. ⌜ partOf r ≡ first (now (s .entry)) (regionSize (now (s .entry))) n close from region (textAt (now (s .entry))) none ⌝ }
+fn text_of_first(s: &[u8], region: usize, n: usize, close: usize, from: usize) -> SoughtText
+    ensures { λ r. ⌜ soughtText r ≡ first (now (s .entry)) (regionSize (now (s .entry))) n close from region (textAt (now (s .entry))) none ⌝ }
 {
     let mut at = from;
     let mut left = n;
     while 0 < left {
         let size = region_size(s, at);
         if room(at, close) < size {
-            return Part::Nothing;
+            return SoughtText::Nothing;
         }
         if byte(s, at) == region {
             let rated = rated_size(s, at);
-            return Part::Is {
+            return SoughtText::Is {
                 start: at + rated + 1,
                 size: ahead(s, at, rated),
             };
@@ -156,18 +156,18 @@ fn text_of_first(s: &[u8], region: usize, n: usize, close: usize, from: usize) -
         at += size;
         left -= 1;
     }
-    Part::Nothing
+    SoughtText::Nothing
 }
 
 // The text of the first such region in the first content advisory.
-pub fn advisory_text_in(s: &[u8], region: usize, end: usize, from: usize) -> Part
-    ensures { λ r. ⌜ partOf r ≡ textIn (now (s .entry)) region end from ⌝ }
+pub fn advisory_text_in(s: &[u8], region: usize, end: usize, from: usize) -> SoughtText
+    ensures { λ r. ⌜ soughtText r ≡ textIn (now (s .entry)) region end from ⌝ }
 {
     let mut at = from;
     loop {
         let size = descriptor_size(s, at);
         if room(at, end) < size {
-            return Part::Nothing;
+            return SoughtText::Nothing;
         }
         if byte(s, at) == CONTENT_ADVISORY {
             return text_of_first(s, region, ahead(s, at, 2) % 64, at + size, at + 3);

@@ -1,13 +1,18 @@
-// Judging the multiple string structure, and finding its strings.
+// Judging the multiple string structure, finding its strings, and where a text with its length stands.
 use bytes_at::Walk;
 use bytes_at::at_end;
 use bytes_at::back;
+use bytes_at::byte;
 use bytes_at::skip;
 use bytes_at::skip_fields;
+use part::Part;
 ghost use mathlib.Core.Path.{_≡_};
+ghost use Prim.Native.Nat.{_+_, _≤_};
+ghost use lib.ListN.{length};
 ghost use Rattle.bytes_at.specs.Walks.{many};
 ghost use Rattle.format.specs.Formats.{walks, walksAll};
 ghost use Rattle.strings.specs.Strings.{segment, string, structure, text, sizedText};
+ghost use Rattle.strings.specs.Places.{textAt, textEnd};
 
 fn one_segment(s: &[u8], end: usize, at: usize) -> Walk
     ensures { λ r. ⌜ r ≡ walks segment (now (s .entry)) end at ⌝ }
@@ -101,4 +106,24 @@ pub fn sized_text(s: &[u8], end: usize, at: usize) -> Walk
         return v;
     };
     whole_text(s, e, b)
+}
+
+// Where the text stands whose length is the byte at `at`, which is in the section or less than a text
+// behind it.
+pub fn text_at(s: &[u8], at: usize) -> Part
+    requires { ⌜ at ≤ length (now s) + 256 ⌝ }
+    ensures { λ r. ⌜ (r ≡ textAt (now (s .entry)) at) × ((r .start ≤ at + 1) × (r .length ≤ 255)) ⌝ }
+{
+    Part {
+        start: at + 1,
+        length: byte(s, at),
+    }
+}
+
+// Where it ends.
+pub fn text_end(s: &[u8], at: usize) -> usize
+    requires { ⌜ at ≤ length (now s) + 256 ⌝ }
+    ensures { λ r. ⌜ (r ≡ textEnd (now (s .entry)) at) × (r ≤ at + 256) ⌝ }
+{
+    at + 1 + byte(s, at)
 }

@@ -2,7 +2,7 @@
 use mathlib.Core.Path.{sym, _∙_}
 use Rattle.format.proofs.FieldLaws.{skip-field}
 use Rattle.bytes_at.proofs.WalkLaws.{seq-bad, seq-to}
-use Rattle.descriptor.specs.Descriptors.{sizedDescriptors}
+use Rattle.descriptor.specs.Inner.{sizedDescriptors}
 use borrow.Author.Needs.{needs}
 use Rattle.descriptor.proofs.sized_descriptors.Statement.{statement}
 use Rattle.descriptor.proofs.sized_descriptors.Tie as tie

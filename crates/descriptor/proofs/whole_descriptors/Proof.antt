@@ -1,8 +1,9 @@
 -- `whole_descriptors` meets its contract: what the walk from descriptor to descriptor says, as an answer.
 use mathlib.Core.Path.{refl, sym, _∙_}
 use native.Mathlib.Omega.{arith}
-use Rattle.bytes_at.proofs.ChoiceLaws.{lt-yes, lt-no}
-use Rattle.descriptor.specs.Descriptors.{descriptors, stopped}
+use Rattle.logic.proofs.ChoiceLaws.{lt-yes, lt-no}
+use Rattle.descriptor.specs.Descriptors.{descriptors}
+use Rattle.descriptor.specs.Inner.{stopped}
 use borrow.Author.Needs.{needs}
 use Rattle.descriptor.proofs.whole_descriptors.Statement.{statement}
 use Rattle.descriptor.proofs.whole_descriptors.Tie as tie

@@ -1,5 +1,5 @@
 -- Laws of lists of bytes that stand in a section, and of steps over a number of bytes.
-use Prim.Native.Nat.{ℕ, _+_, _-_, _*_, _/_, _≤_, _<_}
+use Prim.Native.Nat.{ℕ, zero, suc, _+_, _-_, _*_, _/_, _≤_, _<_}
 use mathlib.Core.Path.{_≡_, refl, sym, ap, _∙_}
 use mathlib.Core.Logic.{_⊎_, inl, inr, ⊎-elim}
 use mathlib.Core.List.{List, [], _∷_, _++_, append-cancel-left}
@@ -11,7 +11,7 @@ use lib.Seq.{take-add, drop-drop, length-take-le, take-at, drop-at, getD-take, g
 use lib.Dec.{leb}
 use borrow.Author.Tests.{leb-true}
 use Rattle.bytes_at.specs.declared.Walk.the-variants.{To, Bad}
-use Rattle.bytes_at.specs.Choices.{pick}
+use Rattle.logic.specs.Choices.{pick}
 use Rattle.bytes_at.specs.Fields.{byteAt}
 use Rattle.bytes_at.specs.Walks.{skipTo, bitsTo, fieldsTo}
 use Rattle.bytes_at.proofs.WalkLaws.{to-is, never, skipped, skip-fits, bits-on, bits-done}
@@ -63,6 +63,12 @@ module _ (s : List ℕ) (k at : ℕ) where
   pub part-lies : at + k ≤ length s → Lies (take k (drop at s)) s at
   part-lies h = rw (part-length h)
 
+-- bytes after bytes
+pub bytes-append : (p q : List ℕ) → Bytes p → Bytes q → Bytes (p ++ q)
+bytes-append [] q a b i = b i
+bytes-append (x ∷ p) q a b zero = a 0
+bytes-append (x ∷ p) q a b (suc i) = bytes-append p q (λ j. a (suc j)) b i
+
 -- ---- heads of fields
 -- what a choice is, one of its sides is
 pub pick-inv : {A : Type 0} (t : Bool) (a b x : A) → pick t a b ≡ x → ((t ≡ true) × (a ≡ x)) ⊎ ((t ≡ false) × (b ≡ x))
@@ -110,6 +116,7 @@ module _ (k : ℕ) (W : Walker) (fit : (s : List ℕ) (end at : ℕ) → at + k 
         (take k (drop at s), ((l, part-bytes s k at z), (part-lies s k at (omega arith), omega arith)));
     unique = λ x y p q o r e. same-front x y p q (o .0 ∙ sym (r .0)) e .0;
     within = λ s end at e h w. let a = took s end at e h w in (omega arith, a .1);
+    bytes = λ x o. o .1;
   }
 
 pub fields-law : (ns : List ℕ) (k : ℕ) → total ns ≡ 8 * k

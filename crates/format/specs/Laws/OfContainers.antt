@@ -6,15 +6,15 @@ use mathlib.Core.List.{List, [], _++_}
 use mathlib.Core.Option.{Option, none, some}
 use mathlib.Core.Bool.{Bool, true, false}
 use native.Mathlib.Omega.{arith}
-use lib.ListN.{length, take, drop}
+use lib.ListN.{length, take, drop, length-append}
 use lib.Dec.{eqb}
 use borrow.Author.Tests.{eqb-true, eq-eqb, ne-eqb}
 use Rattle.bytes_at.specs.declared.Walk.the-variants.{To}
-use Rattle.bytes_at.specs.Choices.{pick}
+use Rattle.logic.specs.Choices.{pick}
 use Rattle.bytes_at.specs.Walks.{skipTo, then, ends}
 use Rattle.bytes_at.proofs.WalkLaws.{to-is, then-to, then-inv, skipped, skip-fits, ends-at, ended}
 use Rattle.format.specs.Lawful.{Walker, Lies, Bytes, Lawful, Fills, OkOpt, encOpt, OkSum, encSum}
-use Rattle.format.specs.Laws.OfBytes.{pick-inv, same-front, part-bytes, part-length, part-lies}
+use Rattle.format.specs.Laws.OfBytes.{pick-inv, same-front, after, bytes-append, lies-at, lies-join, lies-split, part-bytes, part-length, part-lies}
 
 -- n bytes that a format fills
 module _ {X : Type 0} {F : Walker} {Ok : X → Type 0} {enc : X → List ℕ} (back n : ℕ) (f : Fills F Ok enc) where
@@ -35,6 +35,7 @@ module _ {X : Type 0} {F : Walker} {Ok : X → Type 0} {enc : X → List ℕ} (b
         let t = skipped back at n end (p .0) (p .1 .0) in
         let q = f .whole s (p .0) at e (p .1 .1) in
         (omega arith, omega arith);
+    bytes = λ x o. f .bytes x (o .1);
   }
 
 -- a format that tells where it ends, and nothing after it
@@ -52,6 +53,54 @@ module _ {X : Type 0} {A : Walker} {Ok : X → Type 0} {enc : X → List ℕ} (a
     complete = λ s end at h m z w. a .complete s end at end h m z (exact-whole s end at end w .0);
     unique = λ x y o r e. a .unique x y [] [] o r (ap (λ l. l ++ []) e);
     whole = λ s end at e w. exact-whole s end at e w .1;
+    bytes = a .bytes;
+  }
+
+-- a format that tells where it ends, and one that takes the rest of the container
+module _ {X Y : Type 0} {A B : Walker} {OkA : X → Type 0} {OkB : Y → Type 0} {encA : X → List ℕ} {encB : Y → List ℕ}
+    (a : Lawful A OkA encA) (b : Fills B OkB encB) where
+  pub before-law : Fills {X = X × Y} (λ s end at. then (A s end at) (B s end))
+      (λ x. OkA (x .0) × OkB (x .1)) (λ x. encA (x .0) ++ encB (x .1))
+  before-law = record {
+    sound = λ s end at x o l h.
+        let j = length-append (encA (x .0)) (encB (x .1)) in
+        let i = lies-split (encA (x .0)) (encB (x .1)) s at l in
+        let u = a .sound s end at (x .0) (o .0) (i .0) (omega arith) in
+        then-to _ _ _ _ u (b .sound s end (at + length (encA (x .0))) (x .1) (o .1) (i .1) (omega arith));
+    complete = λ s end at h m z w.
+        let p = then-inv _ _ end w in
+        let i = a .within s end at (p .0) h (p .1 .0) in
+        let u = a .complete s end at (p .0) h m z (p .1 .0) in
+        let v = b .complete s end (p .0) (i .1) m z (p .1 .1) in (
+          (u .0, v .0),
+          (
+            (u .1 .0, v .1 .0),
+            (
+              lies-join (encA (u .0)) (encB (v .0)) s at (u .1 .1 .0) (lies-at _ s _ _ (u .1 .1 .1) (v .1 .1 .0)),
+              omega (arith, length-append (encA (u .0)) (encB (v .0))),
+            ),
+          ),
+        );
+    unique = λ x y o r e.
+        let f = a .unique (x .0) (y .0) _ _ (o .0) (r .0) e in
+        let g = b .unique (x .1) (y .1) (o .1) (r .1) (after encA (x .0) (y .0) _ _ f e) in
+        λ i. (f i, g i);
+    whole = λ s end at e w. let p = then-inv _ _ e w in b .whole s end (p .0) e (p .1 .1);
+    bytes = λ x o. bytes-append (encA (x .0)) (encB (x .1)) (a .bytes (x .0) (o .0)) (b .bytes (x .1) (o .1));
+  }
+
+-- the same bytes and walk, and other values that stand for the old ones one to one
+module _ {X Y : Type 0} {F : Walker} {Ok : X → Type 0} {enc : X → List ℕ} (f : Fills F Ok enc) (to : Y → X) (from : X → Y)
+    (a : (x : X) → to (from x) ≡ x) (b : (y : Y) → from (to y) ≡ y) where
+  pub under-law : Fills {X = Y} F (λ y. Ok (to y)) (λ y. enc (to y))
+  under-law = record {
+    sound = λ s end at y o l h. f .sound s end at (to y) o l h;
+    complete = λ s end at h m z w.
+        let u = f .complete s end at h m z w in
+        (from (u .0), (rw (a (u .0)) (u .1 .0), rw (a (u .0)) (u .1 .1)));
+    unique = λ y z o r e. sym (b y) ∙ ap from (f .unique (to y) (to z) o r e) ∙ b z;
+    whole = f .whole;
+    bytes = λ y o. f .bytes (to y) o;
   }
 
 -- whatever bytes there are
@@ -63,6 +112,7 @@ any-law = record {
       (take (end - at) (drop at s), (part-bytes s (end - at) at z, (part-lies s (end - at) at (omega arith), omega arith)));
   unique = λ x y o r e. e;
   whole = λ s end at e w. to-is end e w;
+  bytes = λ x o. o;
 }
 
 -- nothing, or a format none of whose values is empty
@@ -92,8 +142,12 @@ module _ {X : Type 0} {F : Walker} {Ok : X → Type 0} {enc : X → List ℕ} (f
       (λ t. f .whole s end at e (t .1))
       (pick-inv (eqb at end) (To at) (F s end at) (To e) w)
 
+  opt-bytes : (x : Option X) → OkOpt Ok x → Bytes (encOpt enc x)
+  opt-bytes none o = λ i. omega arith
+  opt-bytes (some x) o = f .bytes x o
+
   pub opt-law : Fills {X = Option X} (λ s end at. pick (eqb at end) (To at) (F s end at)) (OkOpt Ok) (encOpt enc)
-  opt-law = record { sound = opt-sound; complete = opt-complete; unique = opt-unique; whole = opt-whole }
+  opt-law = record { sound = opt-sound; complete = opt-complete; unique = opt-unique; whole = opt-whole; bytes = opt-bytes }
 
 -- one format or another, by a test on what is told
 differ : {A : Type 0} {t : Bool} → t ≡ true → t ≡ false → A
@@ -123,5 +177,9 @@ module _ {X Y : Type 0} {A B : Walker} {OkA : X → Type 0} {OkB : Y → Type 0}
   sum-whole s end at e w = ⊎-elim (λ g. a .whole s end at e (g .1)) (λ g. b .whole s end at e (g .1))
       (pick-inv t (A s end at) (B s end at) (To e) w)
 
+  sum-bytes : (x : X ⊎ Y) → OkSum t OkA OkB x → Bytes (encSum encA encB x)
+  sum-bytes (inl x) o = a .bytes x (o .1)
+  sum-bytes (inr x) o = b .bytes x (o .1)
+
   pub choice-law : Fills {X = X ⊎ Y} (λ s end at. pick t (A s end at) (B s end at)) (OkSum t OkA OkB) (encSum encA encB)
-  choice-law = record { sound = sum-sound; complete = sum-complete; unique = sum-unique; whole = sum-whole }
+  choice-law = record { sound = sum-sound; complete = sum-complete; unique = sum-unique; whole = sum-whole; bytes = sum-bytes }

@@ -8,7 +8,7 @@ use Rattle.bytes_at.specs.declared.Walk.the-variants.{To}
 use Rattle.bytes_at.specs.Walks.{fieldsTo, then}
 use Rattle.bytes_at.proofs.WalkLaws.{then-to, then-inv}
 use Rattle.format.specs.Lawful.{Walker, Lies, Bytes, Lawful, total}
-use Rattle.format.specs.Laws.OfBytes.{same-front, after, lies-at, lies-join, lies-split}
+use Rattle.format.specs.Laws.OfBytes.{bytes-append, same-front, after, lies-at, lies-join, lies-split}
 use Rattle.format.specs.Laws.OfBytes.{part-bytes, part-length, part-lies, fields-fit, fields-took}
 
 pair-is : {X Y : Type 0} (x y : X × Y) → x .0 ≡ y .0 → x .1 ≡ y .1 → x ≡ y
@@ -50,6 +50,7 @@ module _ {X Y : Type 0} {A B : Walker} {OkA : X → Type 0} {OkB : Y → Type 0}
         let i = a .within s end at (p .0) h (p .1 .0) in
         let j = b .within s end (p .0) e (i .1) (p .1 .1) in
         (omega arith, j .1);
+    bytes = λ x o. bytes-append (encA (x .0)) (encB (x .1)) (a .bytes (x .0) (o .0)) (b .bytes (x .1) (o .1));
   }
 
 -- a head of k bytes, and a body of which the head tells c; the walk reads c from behind the head
@@ -94,6 +95,7 @@ module _ {C X : Type 0} {B : C → Walker} {Ok : C → X → Type 0} {enc : X �
         let t = fields-took ns k whole at end (p .0) h (p .1 .0) in
         let i = (body (c s (p .0))) .within s end (p .0) e (t .1) (p .1 .1) in
         (omega arith, i .1);
+    bytes = λ x o. bytes-append (x .0) (enc (x .1)) (o .0 .1) ((body (c (x .0) k)) .bytes (x .1) (o .1));
   }
 
 -- the same bytes, and other values: `to` gives the value that a new one stands for
@@ -109,4 +111,5 @@ module _ {X Y : Type 0} {W : Walker} {Ok : X → Type 0} {enc : X → List ℕ} 
         (v .0, (v .1 .0, rw (v .1 .1) (u .1 .1)));
     unique = λ y z p q o r e. inj y z o r (a .unique (to y) (to z) p q (good y o) (good z r) e);
     within = a .within;
+    bytes = λ y o. a .bytes (to y) (good y o);
   }

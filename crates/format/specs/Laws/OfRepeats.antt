@@ -8,11 +8,11 @@ use lib.ListN.{length, length-append}
 use lib.Dec.{eqb, ltb}
 use borrow.Author.Tests.{eqb-false, ne-eqb, lt-ltb, le-ltb}
 use Rattle.bytes_at.specs.declared.Walk.the-variants.{To, Bad}
-use Rattle.bytes_at.specs.Choices.{pick}
+use Rattle.logic.specs.Choices.{pick}
 use Rattle.bytes_at.specs.Walks.{then, many, ends}
 use Rattle.bytes_at.proofs.WalkLaws.{to-is, never, then-to, then-inv, ends-at, ended}
 use Rattle.format.specs.Lawful.{Walker, Lies, Bytes, Lawful, Fills, All, encs, unto}
-use Rattle.format.specs.Laws.OfBytes.{pick-inv, after, lies-at, lies-join, lies-split}
+use Rattle.format.specs.Laws.OfBytes.{bytes-append, pick-inv, after, lies-at, lies-join, lies-split}
 
 -- ---- as often as is told
 module _ {X : Type 0} {P : Walker} {Ok : X → Type 0} {enc : X → List ℕ} (a : Lawful P Ok enc) where
@@ -69,12 +69,17 @@ module _ {X : Type 0} {P : Walker} {Ok : X → Type 0} {enc : X → List ℕ} (a
       let g : xs ≡ ys = many-unique xs ys p q (omega arith) (o .1) (r .1) (after enc x y _ _ f e2) in
       cc
 
+  pub many-bytes : (xs : List X) → All Ok xs → Bytes (encs enc xs)
+  many-bytes [] o = λ i. omega arith
+  many-bytes (x ∷ xs) o = bytes-append (enc x) (encs enc xs) (a .bytes x (o .0)) (many-bytes xs (o .1))
+
   pub times-law : (n : ℕ) → Lawful {X = List X} (λ s end at. many (P s end) n at) (λ xs. (length xs ≡ n) × All Ok xs) (encs enc)
   times-law n = record {
     sound = λ s end at xs o l h. many-sound n s end at xs (o .0) (o .1) l h;
     complete = many-complete n;
     unique = λ xs ys p q o r e. many-unique xs ys p q (o .0 ∙ sym (r .0)) (o .1) (r .1) e;
     within = many-within n;
+    bytes = λ xs o. many-bytes xs (o .1);
   }
 
 -- a format whose count must not be 0
@@ -92,6 +97,7 @@ module _ {X : Type 0} {W : Walker} {Ok : X → Type 0} {enc : X → List ℕ} (b
         (u .0, ((c .0, u .1 .0), u .1 .1));
     unique = λ x y p q o r e. a .unique x y p q (o .1) (r .1) e;
     within = λ s end at e h w. a .within s end at e h (counted s end at e w .1);
+    bytes = λ x o. a .bytes x (o .1);
   }
 
 -- ---- until the container's end
@@ -156,4 +162,5 @@ module _ {X : Type 0} {P : Walker} {Ok : X → Type 0} {enc : X → List ℕ} (a
     complete = λ s end. unto-complete end s end;
     unique = unto-unique;
     whole = λ s end. unto-whole end s end;
+    bytes = many-bytes a;
   }

@@ -1,0 +1,14 @@
+-- SCOPE 2.6 and chapter 2: a descriptor list with its length before it: the low bits of the word at `at`, below m, which is 4096 or
+-- 1024.
+use Prim.Native.Nat.{ℕ, _+_, _%_}
+use mathlib.Core.List.{List}
+use Rattle.bytes_at.specs.Fields.{wordAt}
+use Rattle.part.specs.declared.Part.{Part}
+
+-- where the list stands
+unfoldable pub listAt : ℕ → List ℕ → ℕ → Part
+listAt m s at = record { start = at + 2; length = wordAt s at % m }
+
+-- where it ends
+unfoldable pub listEnd : ℕ → List ℕ → ℕ → ℕ
+listEnd m s at = at + 2 + wordAt s at % m

@@ -1,0 +1,60 @@
+-- Fields by their widths: their values, the number that they are together, and its bytes.
+use Prim.Native.Nat.{ℕ, zero, suc, _+_, _*_, _/_, _%_, _^_, _<_}
+use mathlib.Core.List.{List, [], _∷_}
+use Rattle.format.specs.Formats.{One}
+use Rattle.bytes_at.specs.Bits.{fieldAt}
+
+-- a field of so many bits: one that has a meaning, one that is reserved, or a first piece of a longer one
+pub data Field : Type 0 where
+  bits : ℕ → Field
+  reserved : ℕ → Field
+  piece : ℕ → Field
+
+abbrev pub bitsOf : Field → ℕ
+bitsOf (bits n) = n
+bitsOf (reserved n) = n
+bitsOf (piece n) = n
+
+abbrev pub width : List Field → ℕ
+width [] = 0
+width (f ∷ fs) = bitsOf f + width fs
+
+-- the steps of a walk past them, after n bits that lead: reserved bits and pieces count to the field that they lead
+abbrev pub stepsAfter : List Field → ℕ → List ℕ
+stepsAfter [] zero = []
+stepsAfter [] (suc n) = suc n ∷ []
+stepsAfter (bits m ∷ fs) n = (n + m) ∷ stepsAfter fs 0
+stepsAfter (reserved m ∷ fs) n = stepsAfter fs (n + m)
+stepsAfter (piece m ∷ fs) n = stepsAfter fs (n + m)
+
+abbrev pub steps : List Field → List ℕ
+steps fs = stepsAfter fs 0
+
+-- a number for each
+abbrev pub Vals : List Field → Type 0
+Vals [] = One
+Vals (f ∷ fs) = ℕ × Vals fs
+
+-- each fits its bits
+abbrev pub Fit : (fs : List Field) → Vals fs → Type 0
+Fit [] v = One
+Fit (f ∷ fs) v = (v .0 < 2 ^ bitsOf f) × Fit fs (v .1)
+
+-- one after the other, the first highest, they are one number
+abbrev pub number : (fs : List Field) → Vals fs → ℕ
+number [] v = 0
+number (f ∷ fs) v = v .0 * 2 ^ width fs + number fs (v .1)
+
+-- the k bytes of a number, the highest first
+unfoldable pub bytesOf : ℕ → ℕ → List ℕ
+bytesOf zero n = []
+bytesOf (suc k) n = n / 2 ^ (8 * k) ∷ bytesOf k (n % 2 ^ (8 * k))
+
+-- the values that stand from o bits after the byte `at` on
+abbrev pub valsAt : (fs : List Field) → List ℕ → ℕ → ℕ → Vals fs
+valsAt [] s at o = record {}
+valsAt (f ∷ fs) s at o = (fieldAt s at o (bitsOf f), valsAt fs s at (o + bitsOf f))
+
+-- where what follows fields of whole bytes begins
+abbrev pub behind : List Field → ℕ → ℕ
+behind fs at = at + width fs / 8
