@@ -1,4 +1,4 @@
--- Document 01, "The five kinds": the table of kinds, and test 2, which kind a table_id names.
+-- SCOPE 1.5: the table of kinds, and SCOPE 6, number 2: which kind a table_id names.
 use Prim.Native.Nat.{ℕ}
 use mathlib.Core.Bool.{true}
 use Rattle.kind.specs.declared.Kind.{Kind}
@@ -6,7 +6,8 @@ use Rattle.kind.specs.declared.Kind.the-variants.{Mgt, Tvct, Rrt, Eit, E
 use Rattle.kind.specs.declared.Limits.{Limits}
 use Rattle.kind.specs.declared.Found.{Found}
 use Rattle.kind.specs.declared.Found.the-variants.{Is, Nothing}
-use Rattle.bytes_at.specs.Choices.{ifEq}
+use Rattle.logic.specs.Choices.{ifEq}
+use Rattle.refusal.specs.declared.Refusal.the-variants.{ProtocolVersion}
 
 -- the column table_id
 abbrev pub tableIdOf : Kind → ℕ
@@ -16,14 +17,14 @@ tableIdOf Rrt = 0xCA
 tableIdOf Eit = 0xCB
 tableIdOf Ett = 0xCC
 
--- the columns smallest, largest and last_section_number ("any" is any byte, "0 only" is 0); the body
--- stands after the nine bytes of the header; every kind of the base may be watched
+-- the columns smallest, largest and last_section_number ("any" is any byte, "0 only" is 0); the byte that must be 0 is
+-- protocol_version, with its refusal; the body stands after the nine bytes of the header; every kind of the base may be watched
 abbrev pub limitsOf : Kind → Limits
-limitsOf Mgt = record { smallest = 14; largest = 4093; last = 0; body = 9; watched = true }
-limitsOf Tvct = record { smallest = 13; largest = 1021; last = 255; body = 9; watched = true }
-limitsOf Rrt = record { smallest = 18; largest = 1021; last = 0; body = 9; watched = true }
-limitsOf Eit = record { smallest = 11; largest = 4093; last = 255; body = 9; watched = true }
-limitsOf Ett = record { smallest = 15; largest = 4093; last = 0; body = 9; watched = true }
+limitsOf Mgt = record { smallest = 14; largest = 4093; last = 0; «zero_byte» = 8; «zero_refusal» = ProtocolVersion; body = 9; watched = true }
+limitsOf Tvct = record { smallest = 13; largest = 1021; last = 255; «zero_byte» = 8; «zero_refusal» = ProtocolVersion; body = 9; watched = true }
+limitsOf Rrt = record { smallest = 18; largest = 1021; last = 0; «zero_byte» = 8; «zero_refusal» = ProtocolVersion; body = 9; watched = true }
+limitsOf Eit = record { smallest = 11; largest = 4093; last = 255; «zero_byte» = 8; «zero_refusal» = ProtocolVersion; body = 9; watched = true }
+limitsOf Ett = record { smallest = 15; largest = 4093; last = 0; «zero_byte» = 8; «zero_refusal» = ProtocolVersion; body = 9; watched = true }
 
 -- test 2 of a call that reads one kind
 unfoldable pub onlyOf : Kind → ℕ → Found

@@ -1,4 +1,5 @@
-// The table kinds: what the document's table of kinds says of each, in constants of the type.
+// The table kinds: what the table of SCOPE 1.5 says of each, in constants of the type.
+use refusal::Refusal;
 ghost use mathlib.Core.Path.{_≡_};
 ghost use Rattle.kind.specs.Kinds.{limitsOf, tableIdOf, kindOf, onlyOf};
 
@@ -10,12 +11,15 @@ pub enum Kind {
     Ett,
 }
 
-// The range of section_length, the largest last_section_number, the offset of the body's first
-// byte, and whether a watch may be opened on the kind.
+// The range of section_length, the largest last_section_number, the offset of the byte that must be 0
+// and the refusal where it is not, the offset of the body's first byte, and whether a watch may be
+// opened on the kind.
 pub struct Limits {
     pub smallest: usize,
     pub largest: usize,
     pub last: usize,
+    pub zero_byte: usize,
+    pub zero_refusal: Refusal,
     pub body: usize,
     pub watched: bool,
 }
@@ -41,6 +45,8 @@ impl Kind {
         smallest: 14,
         largest: 4093,
         last: 0,
+        zero_byte: 8,
+        zero_refusal: Refusal::ProtocolVersion,
         body: 9,
         watched: true,
     };
@@ -49,6 +55,8 @@ impl Kind {
         smallest: 13,
         largest: 1021,
         last: 255,
+        zero_byte: 8,
+        zero_refusal: Refusal::ProtocolVersion,
         body: 9,
         watched: true,
     };
@@ -57,6 +65,8 @@ impl Kind {
         smallest: 18,
         largest: 1021,
         last: 0,
+        zero_byte: 8,
+        zero_refusal: Refusal::ProtocolVersion,
         body: 9,
         watched: true,
     };
@@ -65,6 +75,8 @@ impl Kind {
         smallest: 11,
         largest: 4093,
         last: 255,
+        zero_byte: 8,
+        zero_refusal: Refusal::ProtocolVersion,
         body: 9,
         watched: true,
     };
@@ -73,6 +85,8 @@ impl Kind {
         smallest: 15,
         largest: 4093,
         last: 0,
+        zero_byte: 8,
+        zero_refusal: Refusal::ProtocolVersion,
         body: 9,
         watched: true,
     };

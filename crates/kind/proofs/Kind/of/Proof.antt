@@ -1,7 +1,7 @@
 -- `Kind::of` meets its contract: each arm is one row of the table.
 use native.Mathlib.Omega.{arith}
 use mathlib.Core.Path.{refl}
-use Rattle.bytes_at.proofs.ChoiceLaws.{eq-yes, eq-no}
+use Rattle.logic.proofs.ChoiceLaws.{eq-yes, eq-no}
 use Rattle.kind.specs.Kinds.{kindOf}
 use Rattle.kind.proofs.Kind.of.Statement.{statement}
 use Rattle.kind.proofs.Kind.of.Tie as tie

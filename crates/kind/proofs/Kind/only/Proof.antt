@@ -1,7 +1,7 @@
 -- `Kind::only` meets its contract.
 use native.Mathlib.Omega.{arith}
-use mathlib.Core.Path.{refl, _∙_}
-use Rattle.bytes_at.proofs.ChoiceLaws.{eq-yes, eq-no}
+use mathlib.Core.Path.{refl}
+use Rattle.logic.proofs.ChoiceLaws.{eq-yes, eq-no}
 use Rattle.kind.specs.Kinds.{onlyOf}
 use borrow.Author.Needs.{needs}
 use Rattle.kind.proofs.Kind.only.Statement.{statement}
