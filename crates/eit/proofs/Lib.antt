@@ -1,0 +1,6 @@
+pub mod HeadLaws
+pub mod RowLaws
+pub mod EventLaws
+pub mod EventsLaws
+pub mod TitleLaws
+pub mod ThereLaws

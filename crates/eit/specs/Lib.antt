@@ -1,0 +1,8 @@
+-- The definitions, in reading order; Inner is for functions over events that were judged, Values for the laws that tie what is read to
+-- the format.
+pub mod Format
+pub mod Titles
+pub mod Fields
+pub mod Questions
+pub mod Inner
+pub mod Values

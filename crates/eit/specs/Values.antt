@@ -1,0 +1,53 @@
+-- What is answered for a value of the format, where its encoding lies at a.
+use Prim.Native.Nat.{ℕ, _+_}
+use mathlib.Core.List.{List, [], _∷_, _++_}
+use mathlib.Core.Option.{none, some}
+use lib.ListN.{length}
+use Rattle.format.specs.Values.{behind}
+use Rattle.part.specs.declared.Part.{Part}
+use Rattle.strings.specs.Strings.{text, structure}
+use Rattle.descriptor.specs.Descriptors.{descriptors, contentAdvisory}
+use Rattle.row.specs.Rows.{partRow}
+use Rattle.eit.specs.declared.event.Title.{Title}
+use Rattle.eit.specs.declared.event.Title.the-variants.{None, NoStrings, Text}
+use Rattle.eit.specs.declared.event.Event.{Event}
+use Rattle.eit.specs.Format.{eventHead, EventFields, event, events}
+
+-- the sort of a text that stands at a part
+unfoldable pub titleFor : text .Val → Part → Title
+unfolding text structure
+titleFor none p = None
+titleFor (some (u, [])) p = NoStrings
+titleFor (some (u, x ∷ xs)) p = Text p
+
+-- where the title stands: after the head and a length of one byte
+abbrev pub titlePlace : ℕ → EventFields → Part
+titlePlace a e = record { start = behind eventHead a + 1; length = length (text .enc (e .title)) }
+
+-- where the descriptors stand: after the title and a length of two bytes
+abbrev pub descriptorsPlace : ℕ → EventFields → Part
+descriptorsPlace a e = record {
+  start = behind eventHead a + 1 + length (text .enc (e .title)) + 2;
+  length = length (descriptors contentAdvisory .enc (e .descs));
+}
+
+-- the event
+abbrev pub answerFor : ℕ → EventFields → Event
+answerFor a e = record {
+  «event_id» = e .head .id;
+  «start_time» = e .head .start;
+  «etm_location» = e .head .etm;
+  «length_in_seconds» = e .head .seconds;
+  title = titleFor (e .title) (titlePlace a e);
+  descriptors = descriptorsPlace a e;
+}
+
+-- the event's row
+abbrev pub rowFor : ℕ → EventFields → List ℕ
+rowFor a e =
+    (e .head .id ∷ e .head .start ∷ e .head .etm ∷ e .head .seconds ∷ []) ++ (partRow (titlePlace a e) ++ partRow (descriptorsPlace a e))
+
+-- the events of a body
+unfoldable pub eventsOf : events .Val → List EventFields
+unfolding events event
+eventsOf v = v .1

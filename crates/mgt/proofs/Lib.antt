@@ -1,0 +1,4 @@
+pub mod HeadLaws
+pub mod DefinedLaws
+pub mod BodyLaws
+pub mod ThereLaws

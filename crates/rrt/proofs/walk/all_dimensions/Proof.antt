@@ -1,0 +1,44 @@
+-- `all_dimensions` meets its contract.
+use mathlib.Core.Path.{sym, _∙_}
+use Rattle.format.proofs.FieldLaws.{skip-field}
+use Rattle.rrt.specs.Format.{dimensions}
+use Rattle.bytes_at.proofs.WalkLaws.{seq-bad, seq-to}
+use borrow.Author.Needs.{needs}
+use Rattle.rrt.proofs.walk.all_dimensions.Statement.{statement}
+use Rattle.rrt.proofs.walk.all_dimensions.Tie as tie
+
+skip-requires : tie.Need-skip-requires
+skip-requires c κs = search needs
+
+enum-known-w : tie.Need-enum-known-w
+enum-known-w c = search needs
+
+enum-told : tie.Need-enum-told
+enum-told c = search needs
+
+returns : tie.Need-returns
+unfolding dimensions
+returns c = seq-bad _ (c .before .before .skip .ensures ∙ sym (skip-field 1 _ _)) (c .enum-told .given .1)
+
+back-requires : tie.Need-back-requires
+back-requires c κs = search needs
+
+some-dimensions-requires : tie.Need-some-dimensions-requires
+some-dimensions-requires c κs = search needs
+
+returns-2 : tie.Need-returns-2
+unfolding dimensions
+returns-2 c = let w = c .before .before .before in
+    seq-to _ (w .before .before .skip .ensures ∙ sym (skip-field 1 _ _)) (w .w .given .1) (rw (c .before .back .ensures .0) at (c .some-dimensions .ensures))
+
+pub all-dimensions-spec : {M : Type 1} → statement M
+all-dimensions-spec =
+    tie.close
+    (tie.spec
+    skip-requires
+    enum-known-w
+    enum-told
+    returns
+    back-requires
+    some-dimensions-requires
+    returns-2)

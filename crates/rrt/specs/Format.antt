@@ -1,0 +1,55 @@
+-- SCOPE 2.3: the body of an RRT, and the values of a dimension and of a value by their names.
+use Prim.Native.Nat.{ℕ}
+use mathlib.Core.Path.{refl}
+use mathlib.Core.List.{List, [], _∷_}
+use Rattle.format.specs.Formats.{One, Format, Filling, seq, exact, under}
+use Rattle.format.specs.Values.{Field, bits, reserved}
+use Rattle.format.specs.Told.{sized8, fewNotNone, notNone}
+use Rattle.strings.specs.Strings.{text, sizedText}
+use Rattle.descriptor.specs.Descriptors.{list10, noTag}
+
+-- a value's short text and long text, each with a length of 8 bits
+pub record ValueFields : Type 0 where
+  pub short : text .Val
+  pub long : text .Val
+
+abbrev pub valueFormat : Format One
+valueFormat =
+    under (seq (sized8 text) (sized8 text)) {Y = ValueFields} (λ v. ((record {}, v .short), (record {}, v .long)))
+    (λ x. record { short = x .0 .1; long = x .1 .1 }) (λ x. refl) (λ y. refl)
+
+unfoldable pub value : Format One
+value = valueFormat
+
+-- r 3, graduated_scale 1, and then the count of values
+abbrev pub scaleHead : List Field
+scaleHead = reserved 3 ∷ bits 1 ∷ []
+
+-- the dimension's name with a length of 8 bits; r 3, graduated_scale 1, values 4, not 0; the values
+pub record DimensionFields : Type 0 where
+  pub name : text .Val
+  pub r : ℕ
+  pub scale : ℕ
+  pub values : List (value .Val)
+
+abbrev pub dimensionFormat : Format One
+dimensionFormat =
+    under (seq (sized8 text) (fewNotNone scaleHead 4 refl value)) {Y = DimensionFields}
+    (λ d. ((record {}, d .name), ((d .r, (d .scale, record {})), d .values)))
+    (λ x. record { name = x .0 .1; r = x .1 .0 .0; scale = x .1 .0 .1 .0; values = x .1 .1 })
+    (λ x. refl) (λ y. refl)
+
+unfoldable pub dimension : Format One
+dimension = dimensionFormat
+
+-- dimensions 8, not 0, and each of them
+unfoldable pub dimensions : Format One
+dimensions = notNone dimension
+
+-- what follows the region name: the dimensions; r 6, length 10, descriptors
+unfoldable pub rest : Format One
+rest = seq dimensions (list10 noTag)
+
+-- the region name with a length of 8 bits; the rest
+unfoldable pub rrt : Filling One
+rrt = exact (seq sizedText rest)
