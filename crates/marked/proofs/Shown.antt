@@ -1,22 +1,32 @@
 -- The one statement: every marked example of the list holds. Sections that pass do so by the law of sealing, and the rest
 -- is computed.
-use mathlib.Core.Path.{_≡_, refl}
+use mathlib.Core.Path.{refl}
 use Rattle.checksum.specs.Register.{sealed, fourBytes}
 use Rattle.checksum.proofs.Sealing.{sealed-sound}
-use Rattle.bytes_at.specs.Choices.{ifLt, ifEq}
+use Rattle.logic.specs.Choices.{ifLt, ifEq}
 use Rattle.kind.specs.Kinds.{kindOf, onlyOf}
 use Rattle.bytes_at.specs.Walks.{skipTo, bitsTo, fieldsTo, then, many, ends}
 use Rattle.format.specs.Lawful.{unto}
+use Rattle.bytes_at.specs.Bits.{bitAt, bitsAt}
+use Rattle.strings.specs.Places.{textAt, textEnd}
 use Rattle.strings.specs.Strings.{segment, string, structure, text, sizedText}
-use Rattle.descriptor.specs.Descriptors.{content, descriptor, descriptors, sizedDescriptors}
-use Rattle.body.specs.Bodies.{event, table, channel, value, dimension, entryOf, counted, tables, dimensions, mgt, tvct, rrt, eit, ett, bodyOf}
+use Rattle.descriptor.specs.Descriptors.{content, descriptor, descriptors, list12, list10}
+use Rattle.descriptor.specs.Places.{listAt}
+use Rattle.mgt.specs.Format.{defined, tables, mgt}
+use Rattle.channel.specs.Format.{channel}
+use Rattle.tvct.specs.Format.{channels, tvct}
+use Rattle.rrt.specs.Format.{value, dimension, dimensions, rest, rrt}
+use Rattle.eit.specs.Format.{event, events, eit}
+use Rattle.eit.specs.Fields.{titlePart, titleAt, descriptorsAt, eventAt}
+use Rattle.eit.specs.Titles.{titleOf}
+use Rattle.ett.specs.Format.{ett}
+use Rattle.section.specs.Bodies.{bodyOf}
+use Rattle.entry.specs.Entries.{formatOf, countOf, firstOf, entryWalk, spotIn, spotOf}
 use Rattle.section.specs.Headers.{headerBy, ofKind, lengthTests, checksumTest, numberTests}
 use Rattle.section.specs.Sections.{sectionBy, verdictBy, withBody, bodyTest}
 use Rattle.refusal.specs.Outcomes.{after}
-use Rattle.table.specs.Parts.{entryWalk}
-use Rattle.table.specs.Titles.{titleOf}
-use Rattle.table.specs.Eits as eits
-use Rattle.shelf_state.specs.Loops.{_&_, _⇒_, all, any, sum, first, each}
+use Rattle.reading.specs.Eits.{entryOf}
+use Rattle.logic.specs.Loops.{_&_, _⇒_, all, any, sum, first, each}
 use Rattle.shelf_state.specs.Records.{sameKey, isOf, takenBy, holds, release, emptyShelf}
 use Rattle.shelf_state.specs.Rules.{quotaOf, watchable, inRange, keysDiffer, quotasFit, placesOwned, noneTwice, noneAboveQuota, lastBelowQuota, unheardEmpty, lengthsFit, keysInRange, sizesInRange, sizesFit, obeys}
 use Rattle.shelf.specs.Calls.{orRefuse, made, openedInRange, opened, closed}
@@ -25,46 +35,46 @@ use Rattle.text.specs.Segments.{wayOf, pairs, utf16Units, unitsBy, segmentUnits
 use Rattle.text.specs.Strings.{standing, stringCount, stringAt, joined, joinedUnits, stringUnits}
 use Rattle.text.specs.Texts.{ofField, fieldUnits}
 use Rattle.marked.specs.Sections.{eit11, eit4093, tvct1021, mgt14, rrt18, ett15, teaSection, noTitle, zeroTitle}
-use Rattle.marked.specs.Marked.{Mark, P1, P2, P3, P4, P5, P6, P7, P8, P9, P10, P11, P12, P13, Says, marked, All}
+use Rattle.marked.specs.Marked.{P1, P2, P3, P4, P5, P6, P7, P8, P9, P10, P11, P12, P13, Says, marked, All}
 
 p1 : Says P1
-unfolding headerBy ofKind lengthTests checksumTest numberTests ifLt ifEq kindOf sealed fourBytes sectionBy verdictBy withBody bodyTest bodyOf entryOf counted then many ends skipTo bitsTo fieldsTo unto segment string structure text sizedText content descriptor descriptors sizedDescriptors eit event
+unfolding headerBy ofKind lengthTests checksumTest numberTests ifLt ifEq kindOf sealed fourBytes sectionBy verdictBy withBody bodyTest bodyOf then many ends skipTo bitsTo fieldsTo unto segment string structure text sizedText content descriptor descriptors list12 eit events event
 p1 = (rw (sealed-sound (eit11 0 0)), refl)
 
 p2 : Says P2
-unfolding headerBy ofKind lengthTests checksumTest numberTests ifLt ifEq kindOf sealed fourBytes sectionBy verdictBy withBody bodyTest bodyOf entryOf counted then many ends skipTo bitsTo fieldsTo unto segment string structure text sizedText content descriptor descriptors sizedDescriptors eit event
+unfolding headerBy ofKind lengthTests checksumTest numberTests ifLt ifEq kindOf sealed fourBytes sectionBy verdictBy withBody bodyTest bodyOf then many ends skipTo bitsTo fieldsTo unto segment string structure text sizedText content descriptor descriptors list12 eit events event
 p2 = (rw (sealed-sound eit4093), refl)
 
 p3 : Says P3
-unfolding headerBy ofKind lengthTests checksumTest numberTests ifLt ifEq kindOf sealed fourBytes sectionBy verdictBy withBody bodyTest bodyOf entryOf counted then many ends skipTo bitsTo fieldsTo unto segment string structure text sizedText content descriptor descriptors sizedDescriptors tvct channel
+unfolding headerBy ofKind lengthTests checksumTest numberTests ifLt ifEq kindOf sealed fourBytes sectionBy verdictBy withBody bodyTest bodyOf then many ends skipTo bitsTo fieldsTo unto segment string structure text sizedText content descriptor descriptors list10 tvct channels channel
 p3 = (rw (sealed-sound tvct1021), refl)
 
 p4 : Says P4
-unfolding headerBy ofKind lengthTests checksumTest numberTests ifLt ifEq kindOf sealed fourBytes sectionBy verdictBy withBody bodyTest bodyOf entryOf counted then many ends skipTo bitsTo fieldsTo unto segment string structure text sizedText content descriptor descriptors sizedDescriptors mgt tables table
+unfolding headerBy ofKind lengthTests checksumTest numberTests ifLt ifEq kindOf sealed fourBytes sectionBy verdictBy withBody bodyTest bodyOf then many ends skipTo bitsTo fieldsTo unto segment string structure text sizedText content descriptor descriptors list12 mgt tables defined
 p4 = (rw (sealed-sound mgt14), refl)
 
 p5 : Says P5
-unfolding headerBy ofKind lengthTests checksumTest numberTests ifLt ifEq kindOf sealed fourBytes sectionBy verdictBy withBody bodyTest bodyOf entryOf counted then many ends skipTo bitsTo fieldsTo unto segment string structure text sizedText content descriptor descriptors sizedDescriptors rrt dimensions dimension value
+unfolding headerBy ofKind lengthTests checksumTest numberTests ifLt ifEq kindOf sealed fourBytes sectionBy verdictBy withBody bodyTest bodyOf then many ends skipTo bitsTo fieldsTo unto segment string structure text sizedText content descriptor descriptors list10 rrt rest dimensions dimension value
 p5 = (rw (sealed-sound rrt18), refl)
 
 p6 : Says P6
-unfolding headerBy ofKind lengthTests checksumTest numberTests ifLt ifEq kindOf sealed fourBytes sectionBy verdictBy withBody bodyTest bodyOf entryOf counted then many ends skipTo bitsTo fieldsTo unto segment string structure text sizedText content descriptor descriptors sizedDescriptors ett
+unfolding headerBy ofKind lengthTests checksumTest numberTests ifLt ifEq kindOf sealed fourBytes sectionBy verdictBy withBody bodyTest bodyOf then many ends skipTo bitsTo fieldsTo unto segment string structure text sizedText content descriptor descriptors ett
 p6 = (rw (sealed-sound ett15), refl)
 
 p7 : Says P7
-unfolding headerBy ofKind lengthTests checksumTest numberTests ifLt ifEq kindOf sealed fourBytes sectionBy verdictBy withBody bodyTest bodyOf entryOf counted then many ends skipTo bitsTo fieldsTo unto segment string structure text sizedText content descriptor descriptors sizedDescriptors eit event
+unfolding headerBy ofKind lengthTests checksumTest numberTests ifLt ifEq kindOf sealed fourBytes sectionBy verdictBy withBody bodyTest bodyOf then many ends skipTo bitsTo fieldsTo unto segment string structure text sizedText content descriptor descriptors list12 eit events event
 p7 = (rw (sealed-sound (eit11 3 3)), rw (sealed-sound (eit11 4 3)))
 
 p8 : Says P8
-unfolding headerBy ofKind lengthTests checksumTest numberTests ifLt ifEq kindOf sealed fourBytes sectionBy verdictBy withBody bodyTest bodyOf entryOf counted then many ends skipTo bitsTo fieldsTo unto segment string structure text sizedText content descriptor descriptors sizedDescriptors eit event onlyOf after entryWalk titleOf eits.eventTimes eits.eventParts eits.eventRow eits.eventOf eits.placeIn eits.placeOf eits.entryOf
+unfolding headerBy ofKind lengthTests checksumTest numberTests ifLt ifEq kindOf sealed fourBytes sectionBy verdictBy withBody bodyTest bodyOf then many ends skipTo bitsTo fieldsTo unto segment string structure text sizedText content descriptor descriptors list12 eit events event onlyOf after formatOf countOf firstOf entryWalk spotIn spotOf entryOf bitAt bitsAt textAt textEnd listAt titlePart titleAt titleOf descriptorsAt eventAt
 p8 = (rw (sealed-sound noTitle), rw (sealed-sound zeroTitle))
 
 p9 : Says P9
-unfolding headerBy ofKind lengthTests checksumTest numberTests ifLt ifEq kindOf sealed fourBytes sectionBy verdictBy withBody bodyTest bodyOf entryOf counted then many ends skipTo bitsTo fieldsTo unto segment string structure text sizedText content descriptor descriptors sizedDescriptors eit event
+unfolding headerBy ofKind lengthTests checksumTest numberTests ifLt ifEq kindOf sealed fourBytes sectionBy verdictBy withBody bodyTest bodyOf then many ends skipTo bitsTo fieldsTo unto segment string structure text sizedText content descriptor descriptors list12 eit events event
 p9 = (refl, (refl, (refl, rw (sealed-sound teaSection))))
 
 p10 : Says P10
-unfolding headerBy ofKind lengthTests checksumTest numberTests ifLt ifEq kindOf sealed fourBytes sectionBy verdictBy withBody bodyTest bodyOf entryOf counted then many ends skipTo bitsTo fieldsTo unto segment string structure text sizedText content descriptor descriptors sizedDescriptors eit event _&_ _⇒_ all any sum first each sameKey isOf takenBy holds release emptyShelf quotaOf watchable inRange keysDiffer quotasFit placesOwned noneTwice noneAboveQuota lastBelowQuota unheardEmpty lengthsFit keysInRange sizesInRange sizesFit obeys orRefuse made openedInRange opened closed judged sameEdition edited placeFor takenAt taken byJudge delivering delivered
+unfolding headerBy ofKind lengthTests checksumTest numberTests ifLt ifEq kindOf sealed fourBytes sectionBy verdictBy withBody bodyTest bodyOf then many ends skipTo bitsTo fieldsTo unto segment string structure text sizedText content descriptor descriptors list12 eit events event _&_ _⇒_ all any sum first each sameKey isOf takenBy holds release emptyShelf quotaOf watchable inRange keysDiffer quotasFit placesOwned noneTwice noneAboveQuota lastBelowQuota unheardEmpty lengthsFit keysInRange sizesInRange sizesFit obeys orRefuse made openedInRange opened closed judged sameEdition edited placeFor takenAt taken byJudge delivering delivered
 p10 = (rw (sealed-sound (eit11 0 0)), rw (sealed-sound (eit11 0 1)))
 
 p11 : Says P11
@@ -76,7 +86,7 @@ unfolding ifLt ifEq skipTo bitsTo fieldsTo then many ends after segment string s
 p12 = (refl, refl)
 
 p13 : Says P13
-unfolding headerBy ofKind lengthTests checksumTest numberTests ifLt ifEq kindOf sealed fourBytes sectionBy verdictBy withBody bodyTest bodyOf entryOf counted then many ends skipTo bitsTo fieldsTo unto segment string structure text sizedText content descriptor descriptors sizedDescriptors eit event _&_ _⇒_ all any sum first each sameKey isOf takenBy holds release emptyShelf quotaOf watchable inRange keysDiffer quotasFit placesOwned noneTwice noneAboveQuota lastBelowQuota unheardEmpty lengthsFit keysInRange sizesInRange sizesFit obeys orRefuse made openedInRange opened closed judged sameEdition edited placeFor takenAt taken byJudge delivering delivered
+unfolding headerBy ofKind lengthTests checksumTest numberTests ifLt ifEq kindOf sealed fourBytes sectionBy verdictBy withBody bodyTest bodyOf then many ends skipTo bitsTo fieldsTo unto segment string structure text sizedText content descriptor descriptors list12 eit events event _&_ _⇒_ all any sum first each sameKey isOf takenBy holds release emptyShelf quotaOf watchable inRange keysDiffer quotasFit placesOwned noneTwice noneAboveQuota lastBelowQuota unheardEmpty lengthsFit keysInRange sizesInRange sizesFit obeys orRefuse made openedInRange opened closed judged sameEdition edited placeFor takenAt taken byJudge delivering delivered
 p13 = (refl, (refl, (rw (sealed-sound (eit11 0 0)), refl)))
 
 pub shown : All marked

@@ -1,17 +1,17 @@
--- Document 01, "Marked examples": what each says, and the one statement over their list.
+-- SCOPE 9, the marked examples: what each says, and the one statement over their list.
 use Prim.Native.Nat.{ℕ}
 use mathlib.Core.Path.{_≡_}
 use mathlib.Core.List.{List, [], _∷_}
 use lib.ListN.{length}
 use Rattle.checksum.specs.Register.{sealed}
-use Rattle.refusal.specs.Outcomes.{Outcome, refused, result}
+use Rattle.refusal.specs.Outcomes.{refused, result}
 use Rattle.kind.specs.declared.Kind.{Kind}
 use Rattle.kind.specs.declared.Kind.the-variants.{Mgt, Tvct, Rrt, Eit, Ett}
 use Rattle.kind.specs.Kinds.{kindOf}
 use Rattle.section.specs.Sections.{sectionBy}
-use Rattle.table.specs.declared.eit.Title.{Title}
-use Rattle.table.specs.declared.eit.Title.the-variants.{None, NoStrings}
-use Rattle.table.specs.Eits as eits
+use Rattle.eit.specs.declared.event.Title.{Title}
+use Rattle.eit.specs.declared.event.Title.the-variants.{None, NoStrings}
+use Rattle.reading.specs.Eits.{entryOf}
 use Rattle.text.specs.Texts.{fieldUnits}
 use Rattle.shelf_state.specs.declared.records.Asked.{Asked}
 use Rattle.shelf_state.specs.declared.records.Shelf.{Shelf}
@@ -32,7 +32,7 @@ RefusedBy n s = sectionBy kindOf (sealed s) ≡ refused n
 -- event 0 of an EIT, sealed, has this title, and its empty descriptor list begins at this place
 abbrev pub Titled : Title → ℕ → List ℕ → Type 0
 Titled t at s =
-    eits.entryOf (sealed s) 0
+    entryOf (sealed s) 0
     ≡ result (record {
       «event_id» = 5;
       «start_time» = 1000;

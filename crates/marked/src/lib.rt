@@ -1,1 +1,1 @@
-// The document's marked examples: see specs/Marked.antt. There is no code here.
+// The marked examples, SCOPE 9: see specs/Marked.antt. There is no code here.

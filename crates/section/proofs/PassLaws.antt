@@ -1,12 +1,12 @@
 -- A chain of tests that ends in a result has passed each of them.
-use Prim.Native.Nat.{ℕ, _≤_}
+use Prim.Native.Nat.{ℕ, _≤_, _<_}
 use mathlib.Core.Path.{_≡_, refl}
 use mathlib.Core.Bool.{Bool, true, false}
 use native.Mathlib.Omega.{arith}
 use lib.Dec.{eqb, ltb}
-use borrow.Author.Tests.{ltb-false, eqb-true, eqb-false}
-use Rattle.bytes_at.specs.Choices.{pick, ifLt, ifEq}
-use Rattle.refusal.specs.Outcomes.{Outcome, refused, result}
+use borrow.Author.Tests.{ltb-true, ltb-false, eqb-true}
+use Rattle.logic.specs.Choices.{pick, ifLt, ifEq}
+use Rattle.refusal.specs.Outcomes.{Outcome, refused, result, after}
 
 pub no-result : {A B : Type 0} (n : ℕ) (a : A) → refused n ≡ result a → B
 no-result n a e = let z : _≡_ {A = ℕ} 0 1 = cc in absurd (omega arith)
@@ -31,3 +31,13 @@ module _ {A : Type 0} (x y n : ℕ) (b : Outcome A) (a : A) where
   pub not-equal : ifEq x y (refused n) b ≡ result a → b ≡ result a
   unfolding ifEq
   not-equal e = passed-by (eqb x y) n b a e .1
+
+  pub is-less : ifLt x y b (refused n) ≡ result a → (x < y) × (b ≡ result a)
+  unfolding ifLt
+  is-less e = let p = held-by (ltb x y) n b a e in (ltb-true x y (p .0), p .1)
+
+-- what comes after another call, and is not refused: nor was that one
+pub after-is : {A B : Type 0} (o : Outcome A) (k : A → Outcome B) (b : B) → after o k ≡ result b → (a : A) × ((o ≡ result a) × (k a ≡ result b))
+unfolding after
+after-is (refused n) k b e = no-result n b e
+after-is (result a) k b e = (a, (refl, e))

@@ -2,13 +2,13 @@
 use Prim.Native.Nat.{ℕ, _+_, _-_, _≤_}
 use mathlib.Core.Path.{_≡_, refl, sym, ap, _∙_}
 use mathlib.Core.List.{List}
-use native.Mathlib.Omega.{arith}
 use lib.ListN.{length}
 use lib.Dec.{eqb}
 use mathlib.Core.Bool.{Bool, true, false}
-use Rattle.bytes_at.specs.Choices.{pick, ifEq}
+use Rattle.logic.specs.Choices.{pick, ifEq}
 use Rattle.bytes_at.specs.declared.Walk.{Walk}
 use Rattle.bytes_at.specs.declared.Walk.the-variants.{To, Bad}
+use Rattle.bytes_at.specs.Walks.{Stands}
 use Rattle.refusal.specs.Outcomes.{Outcome, refused, result}
 use Rattle.checksum.specs.Register.{register}
 use Rattle.kind.specs.declared.Kind.{Kind}
@@ -17,7 +17,7 @@ use Rattle.kind.specs.declared.Found.the-variants.{Is, Nothing}
 use Rattle.kind.specs.Kinds.{limitsOf, tableIdOf, kindOf, onlyOf}
 use Rattle.section.specs.declared.header.Header.{Header}
 use Rattle.section.specs.Headers.{tableId, sectionLength, sectionNumber, lastSectionNumber, headerFields, headerBy, ofKind, lengthTests, checksumTest, numberTests}
-use Rattle.section.specs.Sections.{Verdict, refusedBy, brokenAt, soundWith, bodyWalk, walked, bodyTest, withBody, verdictBy, plainly, sectionBy}
+use Rattle.section.specs.Sections.{bodyWalk, walked, bodyTest, withBody, verdictBy, plainly, sectionBy}
 use Rattle.section.proofs.PassLaws.{no-result, not-less, equal, not-equal}
 
 -- what the header's tests have shown of a section of kind k
@@ -80,6 +80,11 @@ with-body (result g) s h p =
 pub section-header : (finds : ℕ → Found) (s : List ℕ) (h : Header) → sectionBy finds s ≡ result h → headerBy finds s ≡ result h
 unfolding sectionBy verdictBy
 section-header finds s h p = with-body (headerBy finds s) s h p .0
+
+-- and the walk through its body stands
+pub section-walked : (finds : ℕ → Found) (s : List ℕ) (h : Header) → sectionBy finds s ≡ result h → Stands (bodyWalk (h .kind) s)
+unfolding sectionBy verdictBy
+section-walked finds s h p = with-body (headerBy finds s) s h p .1
 
 -- a section of kind k that is sound: its header has passed, and the walk through its body stands
 pub section-sound : (k : Kind) (s : List ℕ) (h : Header) → sectionBy (onlyOf k) s ≡ result h

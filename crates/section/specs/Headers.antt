@@ -1,8 +1,8 @@
--- Document 01, "Header" and refusals 1 to 8: the fields of the header, and its tests in the order of their numbers.
+-- SCOPE 1.3, and SCOPE 6, numbers 1 to 8: the fields of the header, and its tests in the order of their numbers.
 use Prim.Native.Nat.{ℕ, _+_, _/_, _%_}
 use mathlib.Core.List.{List}
 use lib.ListN.{length}
-use Rattle.bytes_at.specs.Choices.{ifLt, ifEq}
+use Rattle.logic.specs.Choices.{ifLt, ifEq}
 use Rattle.bytes_at.specs.Fields.{byteAt, wordAt}
 use Rattle.checksum.specs.Register.{register}
 use Rattle.refusal.specs.Numbers.{numberOf}
@@ -16,7 +16,7 @@ use Rattle.section.specs.declared.header.Header.{Header}
 use Rattle.section.specs.declared.header.Head.{Head}
 use Rattle.section.specs.declared.header.Head.the-variants.{Refused, Passes}
 
--- ---- the fields, by the document's names
+-- ---- the fields, by the names of SCOPE 1.3
 abbrev pub tableId : List ℕ → ℕ
 tableId s = byteAt s 0
 
@@ -44,10 +44,7 @@ sectionNumber s = byteAt s 6
 abbrev pub lastSectionNumber : List ℕ → ℕ
 lastSectionNumber s = byteAt s 7
 
-abbrev pub protocolVersion : List ℕ → ℕ
-protocolVersion s = byteAt s 8
-
--- ---- what the code's answer means: the document's number, or the header's values
+-- ---- what the code's answer means: the number of SCOPE 6, or the header's values
 abbrev pub headOutcome : Head → Outcome Header
 headOutcome (Refused k) = refused (numberOf k)
 headOutcome (Passes h) = result h
@@ -63,14 +60,14 @@ headerFields k s = record {
 }
 
 -- ---- the tests
--- 7 and 8
+-- the byte that must be 0, with its kind's refusal (7 of protocol_version), and 8
 unfoldable pub numberTests : Limits → Kind → List ℕ → Outcome Header
 numberTests l k s =
-    ifEq (protocolVersion s) 0
+    ifEq (byteAt s (l .«zero_byte»)) 0
     (ifLt (lastSectionNumber s) (sectionNumber s) (refused 8)
     (ifLt (l .last) (lastSectionNumber s) (refused 8)
     (result (headerFields k s))))
-    (refused 7)
+    (refused (numberOf (l .«zero_refusal»)))
 
 -- 6
 unfoldable pub checksumTest : Limits → Kind → List ℕ → Outcome Header

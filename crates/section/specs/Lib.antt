@@ -1,2 +1,4 @@
+-- The definitions, in reading order.
 pub mod Headers
+pub mod Bodies
 pub mod Sections

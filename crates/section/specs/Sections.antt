@@ -1,4 +1,4 @@
--- Document 01, refusals 1 to 9: a whole section. The header's tests come first, then its kind's body, from the header's end to the
+-- SCOPE 6, numbers 1 to 9: a whole section. The header's tests come first, then its kind's body, from the header's end to the
 -- checksum.
 use Prim.Native.Nat.{ℕ, _-_}
 use mathlib.Core.List.{List}
@@ -11,10 +11,10 @@ use Rattle.kind.specs.declared.Kind.{Kind}
 use Rattle.kind.specs.declared.Found.{Found}
 use Rattle.kind.specs.Kinds.{limitsOf}
 use Rattle.format.specs.Formats.{walksAll}
-use Rattle.body.specs.Bodies.{bodyOf}
+use Rattle.section.specs.Bodies.{bodyOf}
 use Rattle.section.specs.declared.header.Header.{Header}
-use Rattle.section.specs.declared.inner.Judged.{Judged}
-use Rattle.section.specs.declared.inner.Judged.the-variants.{Refused, Broken, Sound}
+use Rattle.section.specs.declared.inner.Inspected.{Inspected}
+use Rattle.section.specs.declared.inner.Inspected.the-variants.{Refused, Broken, Sound}
 use Rattle.section.specs.Headers.{headerBy}
 
 -- the walk through the body of a section of a kind
@@ -27,7 +27,7 @@ pub data Verdict : Type 0 where
   brokenAt : ℕ → Verdict
   soundWith : Header → Verdict
 
-abbrev pub verdictOf : Judged → Verdict
+abbrev pub verdictOf : Inspected → Verdict
 verdictOf (Refused k) = refusedBy (numberOf k)
 verdictOf (Broken x) = brokenAt x
 verdictOf (Sound h) = soundWith h
@@ -48,7 +48,7 @@ withBody (result h) s = bodyTest h s
 unfoldable pub verdictBy : (ℕ → Found) → List ℕ → Verdict
 verdictBy finds s = withBody (headerBy finds s) s
 
--- the document's number alone
+-- the number of SCOPE 6 alone
 abbrev pub plainly : Verdict → Outcome Header
 plainly (refusedBy n) = refused n
 plainly (brokenAt x) = refused 9

@@ -89,12 +89,13 @@ fn checksum_test(s: &[u8], kind: Kind, limits: Limits) -> Head
     }
 }
 
-// 7 and 8, then the fields.
+// The byte that must be 0, then 8, then the fields.
 fn number_tests(s: &[u8], kind: Kind, limits: Limits) -> Head
     ensures { λ r. ⌜ headOutcome r ≡ numberTests limits kind (now (s .entry)) ⌝ }
 {
-    if byte(s, 8) != 0 {
-        return Head::Refused(Refusal::ProtocolVersion);
+    let refusal = limits.zero_refusal;
+    if byte(s, limits.zero_byte) != 0 {
+        return Head::Refused(refusal);
     }
     let number = byte(s, 6);
     let last = byte(s, 7);

@@ -1,6 +1,6 @@
 // The judge: a whole section by the tests 1 to 9.
 use crate::header::Head;
-use crate::inner::Judged;
+use crate::inner::Inspected;
 use crate::inner::inspect_any;
 use crate::inner::inspect_kind;
 use kind::Kind;
@@ -25,12 +25,12 @@ pub fn judge_kind(s: &[u8], kind: Kind) -> Head
 }
 
 // The number alone: a refusal tells no more.
-fn plain(judged: Judged) -> Head
+fn plain(judged: Inspected) -> Head
     ensures { λ r. ⌜ headOutcome r ≡ plainly (verdictOf judged) ⌝ }
 {
     match judged {
-        Judged::Refused(k) => Head::Refused(k),
-        Judged::Broken(_) => Head::Refused(Refusal::Body),
-        Judged::Sound(h) => Head::Passes(h),
+        Inspected::Refused(k) => Head::Refused(k),
+        Inspected::Broken(_) => Head::Refused(Refusal::Body),
+        Inspected::Sound(h) => Head::Passes(h),
     }
 }

@@ -1,4 +1,4 @@
-// Judging a section: the header's tests 1 to 8, then the body, test 9, in the document's order.
+// Judging a section: the header's tests 1 to 8, then the body, test 9, in the order of SCOPE 6.2.
 mod header;
 pub mod inner;
 mod judge;

@@ -1,7 +1,7 @@
 -- `checksum_test` meets its contract: 6, then the others.
 use Rattle.section.specs.Headers.{checksumTest}
 use mathlib.Core.Path.{refl, sym, _∙_}
-use Rattle.bytes_at.proofs.ChoiceLaws.{test-yes, test-no}
+use Rattle.logic.proofs.ChoiceLaws.{test-yes, test-no}
 use borrow.Author.Needs.{needs}
 use Rattle.section.proofs.header.checksum_test.Statement.{statement}
 use Rattle.section.proofs.header.checksum_test.Tie as tie

@@ -1,8 +1,8 @@
 -- `length_tests` meets its contract: the tests 3, 4 and 5 in this order, then the others.
 use Rattle.section.specs.Headers.{lengthTests}
-use mathlib.Core.Path.{refl, sym, _∙_}
+use mathlib.Core.Path.{refl}
 use native.Mathlib.Omega.{arith}
-use Rattle.bytes_at.proofs.ChoiceLaws.{lt-yes, lt-no, eq-yes, eq-no}
+use Rattle.logic.proofs.ChoiceLaws.{lt-yes, lt-no, eq-yes, eq-no}
 use borrow.Author.Needs.{needs}
 use Rattle.section.proofs.header.length_tests.Statement.{statement}
 use Rattle.section.proofs.header.length_tests.Tie as tie

@@ -2,7 +2,7 @@
 use Rattle.section.specs.Headers.{numberTests}
 use mathlib.Core.Path.{refl, _∙_}
 use native.Mathlib.Omega.{arith}
-use Rattle.bytes_at.proofs.ChoiceLaws.{lt-yes, lt-no, eq-yes, eq-no}
+use Rattle.logic.proofs.ChoiceLaws.{lt-yes, lt-no, eq-yes, eq-no}
 use borrow.Author.Needs.{needs}
 use Rattle.section.proofs.header.number_tests.Statement.{statement}
 use Rattle.section.proofs.header.number_tests.Tie as tie

@@ -1,0 +1,50 @@
+-- The values of a dimension stand one after the other within the section.
+use Prim.Native.Nat.{ℕ, _-_, _≤_, _<_}
+use mathlib.Core.Path.{_≡_, sym, ap}
+use mathlib.Core.Logic.{⊎-elim}
+use mathlib.Core.List.{List}
+use native.Mathlib.Nat.{eq-zero-or-pos}
+use native.Mathlib.Omega.{arith}
+use lib.ListN.{length}
+use Rattle.bytes_at.specs.declared.Walk.the-variants.{To}
+use Rattle.bytes_at.specs.Fields.{byteAt}
+use Rattle.bytes_at.specs.Walks.{many, Stands}
+use Rattle.bytes_at.proofs.FieldLaws.{past}
+use Rattle.bytes_at.proofs.WalkLaws.{many-in, reached, stands-at}
+use Rattle.logic.proofs.ChoiceLaws.{lt-yes}
+use Rattle.refusal.specs.Outcomes.{refused, result}
+use Rattle.format.specs.Formats.{walks}
+use Rattle.strings.specs.Places.{textEnd}
+use Rattle.rrt.specs.Format.{value, dimension}
+use Rattle.rrt.specs.Fields.{valuesAt, firstValueAt}
+use Rattle.rrt.proofs.WalkLaws.{value-forward, values-walked}
+use Rattle.section.proofs.PassLaws.{is-less}
+use Rattle.entry.specs.Entries.{standing, valueSpot}
+use Rattle.entry.proofs.EntryLaws.{standing-is}
+
+-- a byte that is not 0 is there
+present : (s : List ℕ) (i : ℕ) → 0 < byteAt s i → i < length s
+present s i h = ⊎-elim (λ e. absurd (omega (arith, past s i (omega arith)))) (λ e. omega arith) (eq-zero-or-pos (length s - i))
+
+pub values-inside : (s : List ℕ) (d j a : ℕ) → j < valuesAt s d → many (walks value s (length s - 4)) j (firstValueAt s d) ≡ To a → a ≤ length s
+values-inside s d j a h w =
+    let t = present s (textEnd s d) (omega arith) in
+    many-in _ (length s) (λ b c v. let u = value-forward s (length s - 4) b c v in omega arith) j (firstValueAt s d) a (omega arith) w
+
+-- of a dimension that stands: a value that it has is found, and one that is found stands
+module _ (s : List ℕ) (d b : ℕ) (w : walks dimension s (length s - 4) d ≡ To b) where
+  pub value-found : (j : ℕ) → j < valuesAt s d → (a : ℕ) × (valueSpot s d j ≡ result a)
+  unfolding valueSpot
+  value-found j l =
+      let v = values-walked s (length s - 4) d b w .0 in
+      let r = reached _ j (valuesAt s d) (firstValueAt s d) b (omega arith) v in (
+        r .0,
+        sym (lt-yes j (valuesAt s d) (standing (many (walks value s (length s - 4)) j (firstValueAt s d))) (refused 13) {r = result (r .0)} l (sym (ap standing (r .1)))),
+      )
+
+  pub value-stands : (j a : ℕ) → valueSpot s d j ≡ result a → Stands (walks value s (length s - 4) a)
+  unfolding valueSpot
+  value-stands j a q =
+      let l = is-less j (valuesAt s d) 13 _ a q in
+      let v = values-walked s (length s - 4) d b w .0 in
+      stands-at _ j (valuesAt s d) (firstValueAt s d) a b (l .0) v (standing-is _ a (l .1))

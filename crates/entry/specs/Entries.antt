@@ -1,0 +1,85 @@
+-- SCOPE 2 and 6.2: the entries that tables repeat, and where entry i of a section begins: 1 to 9, then 13.
+use Prim.Native.Nat.{ℕ, _-_}
+use mathlib.Core.List.{List}
+use lib.ListN.{length}
+use Rattle.logic.specs.Choices.{ifLt}
+use Rattle.bytes_at.specs.declared.Walk.{Walk}
+use Rattle.bytes_at.specs.declared.Walk.the-variants.{To, Bad}
+use Rattle.bytes_at.specs.Walks.{many}
+use Rattle.refusal.specs.Numbers.{numberOf}
+use Rattle.refusal.specs.Outcomes.{Outcome, refused, result, after}
+use Rattle.kind.specs.declared.Kind.{Kind}
+use Rattle.kind.specs.declared.Kind.the-variants.{Mgt, Tvct, Rrt, Eit}
+use Rattle.kind.specs.Kinds.{limitsOf, onlyOf}
+use Rattle.format.specs.Formats.{One, Format, walks}
+use Rattle.mgt.specs.Format.{defined}
+use Rattle.mgt.specs.Fields as mgts
+use Rattle.channel.specs.Format.{channel}
+use Rattle.tvct.specs.Fields as tvcts
+use Rattle.rrt.specs.Format.{value, dimension}
+use Rattle.rrt.specs.Fields as rrts
+use Rattle.eit.specs.Format.{event}
+use Rattle.eit.specs.Fields as eits
+use Rattle.section.specs.Sections.{sectionBy}
+use Rattle.entry.specs.declared.Entry.{Entry}
+use Rattle.entry.specs.declared.Entry.the-variants.{Table, Channel, Dimension, Event}
+use Rattle.entry.specs.declared.Spot.{Spot}
+use Rattle.entry.specs.declared.Spot.the-variants.{Refused, At}
+
+-- the kind of table that repeats the entry, and where its body starts
+abbrev pub tableOf : Entry → Kind
+tableOf Table = Mgt
+tableOf Channel = Tvct
+tableOf Dimension = Rrt
+tableOf Event = Eit
+
+abbrev pub startOf : Entry → ℕ
+startOf e = limitsOf (tableOf e) .body
+
+-- the entry's format
+unfoldable pub formatOf : Entry → Format One
+formatOf Table = defined
+formatOf Channel = channel
+formatOf Dimension = dimension
+formatOf Event = event
+
+-- how many entries a section has, and where the first begins
+unfoldable pub countOf : Entry → List ℕ → ℕ
+countOf Table s = mgts.countAt s (startOf Table)
+countOf Channel s = tvcts.countAt s (startOf Channel)
+countOf Dimension s = rrts.countAt s (startOf Dimension)
+countOf Event s = eits.countAt s (startOf Event)
+
+unfoldable pub firstOf : Entry → List ℕ → ℕ
+firstOf Table s = mgts.firstAt (startOf Table)
+firstOf Channel s = tvcts.firstAt (startOf Channel)
+firstOf Dimension s = rrts.firstAt s (startOf Dimension)
+firstOf Event s = eits.firstAt (startOf Event)
+
+-- entry i begins where the walk past i entries stands
+unfoldable pub entryWalk : Entry → List ℕ → ℕ → Walk
+entryWalk e s i = many (walks (formatOf e) s (length s - 4)) i (firstOf e s)
+
+-- where a walk stands (in a section that was judged it always stands: the laws `entry-found` and `rest-found`)
+abbrev pub standing : Walk → Outcome ℕ
+standing (To a) = result a
+standing (Bad x) = refused 9
+
+-- 13 where there is no entry i
+unfoldable pub spotIn : Entry → List ℕ → ℕ → Outcome ℕ
+spotIn e s i = ifLt i (countOf e s) (standing (entryWalk e s i)) (refused 13)
+
+unfoldable pub spotOf : Entry → List ℕ → ℕ → Outcome ℕ
+spotOf e s i = after (sectionBy (onlyOf (tableOf e)) s) (λ h. spotIn e s i)
+
+-- where all entries are passed: what follows them begins there
+unfoldable pub restIn : Entry → List ℕ → Outcome ℕ
+restIn e s = standing (entryWalk e s (countOf e s))
+
+-- value j of an RRT's dimension that begins at d: it begins where the walk past j values stands; 13 where there is none
+unfoldable pub valueSpot : List ℕ → ℕ → ℕ → Outcome ℕ
+valueSpot s d j = ifLt j (rrts.valuesAt s d) (standing (many (walks value s (length s - 4)) j (rrts.firstValueAt s d))) (refused 13)
+
+abbrev pub spotOutcome : Spot → Outcome ℕ
+spotOutcome (Refused k) = refused (numberOf k)
+spotOutcome (At a) = result a

@@ -1,0 +1,3 @@
+-- The definitions, in reading order; Inner is for functions over a section that was judged.
+pub mod Entries
+pub mod Inner

@@ -1,0 +1,3 @@
+-- The definitions, in reading order; Inner is for functions over entries that were judged.
+pub mod Rows
+pub mod Inner
