@@ -1,114 +1,100 @@
 -- The events of an EIT that was judged, one line each: the lines that are left lead to the answer.
-use Prim.Native.Nat.{ℕ, zero, suc, _+_, _-_, _≤_, _<_}
-use mathlib.Core.Path.{_≡_, refl, sym, ap, _∙_, subst}
-use mathlib.Core.Bool.{Bool, true, false}
-use mathlib.Core.List.{List, _++_}
+use Prim.Native.Nat.{ℕ, zero, suc, _-_, _≤_, _<_}
+use mathlib.Core.Path.{_≡_, sym, ap, _∙_, subst}
+use mathlib.Core.List.{List}
 use native.Mathlib.Numerals.{sub-one}
 use native.Mathlib.Omega.{arith}
-use lib.Dec.{eqb}
 use lib.ListN.{length}
-use Rattle.bytes_at.specs.declared.Walk.{Walk}
-use Rattle.bytes_at.specs.declared.Walk.the-variants.{To, Bad}
-use Rattle.bytes_at.specs.Choices.{pick, ifEq}
-use Rattle.bytes_at.specs.Fields.{byteAt}
+use Rattle.bytes_at.specs.declared.Walk.the-variants.{To}
 use Rattle.bytes_at.specs.Walks.{many}
+use Rattle.bytes_at.proofs.WalkLaws.{many-inv}
 use Rattle.refusal.specs.Outcomes.{result}
 use Rattle.kind.specs.declared.Kind.{Kind}
 use Rattle.kind.specs.declared.Kind.the-variants.{Eit}
-use Rattle.kind.specs.Kinds.{kindOf}
+use Rattle.kind.specs.Kinds.{limitsOf, kindOf}
+use Rattle.format.specs.Lawful.{Bytes}
 use Rattle.format.specs.Formats.{walks}
-use Rattle.body.specs.declared.entry.Entry.the-variants.{Event}
-use Rattle.body.specs.Bodies.{entryOf}
+use Rattle.strings.specs.Places.{textAt}
+use Rattle.eit.specs.declared.event.Title.the-variants.{Text}
+use Rattle.eit.specs.Format.{event}
+use Rattle.eit.specs.Titles.{titleOf}
+use Rattle.eit.specs.Fields.{countAt, firstAt, titlePart, titleAt, eventAt, eventEnd}
+use Rattle.eit.specs.Inner.{Events}
+use Rattle.eit.proofs.EventLaws.{title-sound}
+use Rattle.eit.proofs.EventsLaws.{body-events, events-step}
 use Rattle.section.specs.declared.header.Header.{Header}
-use Rattle.section.specs.Sections.{bodyWalk, walked, bodyTest, withBody, verdictBy, plainly, sectionBy}
-use Rattle.section.proofs.PassLaws.{no-result}
-use Rattle.section.proofs.SectionLaws.{Passed, any-header-passed, section-header}
-use Rattle.table.specs.declared.eit.Title.{Title}
-use Rattle.table.specs.declared.eit.Title.the-variants.{None, NoStrings, Text}
-use Rattle.table.specs.Parts.{rowsFrom, placed}
-use Rattle.table.specs.Titles.{titleOf}
-use Rattle.table.specs.Eits.{eventTimes, eventParts, eventRow, eventOf, eventEnd}
-use Rattle.table.proofs.EntryLaws.{entry-forward}
-use Rattle.table.proofs.RowLaws.{many-inv}
-use Rattle.table.proofs.EitLaws.{event-end, body-events}
-use Rattle.lines.specs.Lines.{eventLine, eventLines}
-use Rattle.lines.specs.Output.{Put}
-use Rattle.lines.specs.Inner.{Placed, Events}
-use Rattle.lines.proofs.PutLaws.{put-nothing, put-then, put-size, put-inside}
+use Rattle.section.specs.Bodies.{bodyOf}
+use Rattle.section.specs.Sections.{bodyWalk, sectionBy}
+use Rattle.section.proofs.SectionLaws.{Passed, any-header-passed, section-header, section-walked}
+use Rattle.lines.specs.Lines.{eventLine, eventLines, eventsShown, restShown}
+use Rattle.shown.specs.Output.{Put}
+use Rattle.shown.specs.Inner.{Placed}
+use Rattle.shown.proofs.BothLaws.{eq-either}
+use Rattle.shown.proofs.PutLaws.{put-nothing, put-then, put-size, put-inside}
 
 -- ---- the title of an event
-pub title-is : (s : List ℕ) (a : ℕ) → titleOf s (a + 10) (byteAt s (a + 9)) ≡ eventOf s (eventRow s a) .title
-unfolding eventOf eventRow eventTimes eventParts
-title-is s a = refl
+title-in : (s : List ℕ) (start n size : ℕ) → Placed size (Text (record { start = start; length = n })) → Placed size (titleOf s start n)
+unfolding titleOf
+title-in s start n size h =
+    eq-either (Placed size) _ _ (record {})
+    (eq-either (Placed size) _ _ (eq-either (Placed size) _ _ (record {}) h _ _) h _ _) _ _
 
-pub title-placed : (s : List ℕ) (start n size : ℕ) → start ≤ size + 10 → n < 256 → Placed size (titleOf s start n)
-unfolding titleOf ifEq
-title-placed s start n size h g = by (eqb n 0) (eqb n 1) (eqb (byteAt s start) 0)
-  where
-    text : Title
-    text = Text (record { start = start; length = n })
+first-stands : (s : List ℕ) (n a : ℕ) (v : Events s n a) → 0 < n → (b : ℕ) × (walks event s (v .end) a ≡ To b)
+first-stands s n a v h = let p = many-inv _ n a (v .stands .0) h (v .stands .1) in (p .0, p .1 .0)
 
-    by : (t u v : Bool) → Placed size (pick t None (pick u (pick v NoStrings text) text))
-    by true u v = record {}
-    by false true true = record {}
-    by false true false = (h, g)
-    by false false v = (h, g)
+pub title-placed : (s : List ℕ) (n a : ℕ) → Bytes s → Events s n a → 0 < n → Placed (length s) (eventAt s a .title)
+unfolding eventAt titleAt titlePart textAt
+title-placed s n a z v h =
+    let w = first-stands s n a v h in
+    title-in s _ _ (length s) (omega (arith, title-sound s (v .end) a (w .0) (w .1) .0, v .inside), z _)
 
 -- ---- the events of a section that was judged
-stood : (w : Walk) (g h : Header) → plainly (walked w g) ≡ result h → (e : ℕ) × (w ≡ To e)
-stood (To e) g h p = (e, refl)
-stood (Bad x) g h p = no-result 9 h p
-
-body-stood : (s : List ℕ) (h : Header) → sectionBy kindOf s ≡ result h → (e : ℕ) × (bodyWalk (h .kind) s ≡ To e)
-unfolding sectionBy verdictBy withBody bodyTest
-body-stood s h p = stood (bodyWalk (h .kind) s) h h (rw (section-header kindOf s h p) at p)
-
-pub section-events : (s : List ℕ) (h : Header) → sectionBy kindOf s ≡ result h → h .kind ≡ Eit → Events s (byteAt s 9) 10
-section-events s h p q =
-    let w = body-stood s h p in
+eit-events : (s : List ℕ) (h : Header) → sectionBy kindOf s ≡ result h → h .kind ≡ Eit
+    → Events s (countAt s (limitsOf Eit .body)) (firstAt (limitsOf Eit .body))
+unfolding bodyOf
+eit-events s h p q =
+    let w = section-walked kindOf s h p in
     let v = any-header-passed s h (section-header kindOf s h p) in
     let k : v .0 ≡ Eit = sym (ap (λ (g : Header). g .kind) (v .1 .fields)) ∙ q in
     let c = subst (λ (x : Kind). Passed x s h) k (v .1) in
-    record {
-      stands = body-events s (w .0) (subst (λ (x : Kind). bodyWalk x s ≡ To (w .0)) q (w .1));
-      inside = omega (arith, c .smallest, c .size);
-      small = omega (arith, c .largest, c .size);
-    }
+    let b = body-events s (length s - 4) (limitsOf Eit .body) (w .0) (subst (λ (x : Kind). bodyWalk x s ≡ To (w .0)) q (w .1)) in
+    record { end = length s - 4; stands = b .0; begins = omega (arith, b .1); inside = omega arith; small = omega (arith, c .largest, c .size) }
+
+-- of the kind that was read, with its body where the code begins it
+pub section-events : (s : List ℕ) (h : Header) (at : ℕ) → sectionBy kindOf s ≡ result h → h .kind ≡ Eit → at ≡ limitsOf (h .kind) .body
+    → Events s (countAt s at) (firstAt at)
+section-events s h at p q e =
+    subst (λ (x : ℕ). Events s (countAt s x) (firstAt x)) (sym (e ∙ ap (λ (k : Kind). limitsOf k .body) q)) (eit-events s h p q)
+
+pub events-rest : (s : List ℕ) (k : Kind) (at : ℕ) → k ≡ Eit → at ≡ limitsOf k .body → eventsShown s at ≡ restShown s k
+unfolding restShown
+events-rest s k at q e = rw q (ap (eventsShown s) (e ∙ ap (λ (x : Kind). limitsOf x .body) q))
 
 -- ---- the loop over the events
 -- one line is put, and the others are left
-pub line-more : {l k e : List ℕ} {n m r : ℕ} (s : List ℕ) (left a b : ℕ) → 0 < left → walks (entryOf Event) s (length s - 4) a ≡ To b
-    → Put (eventLine s a) l n m k → Put (eventLines s (left - 1) b) k m r e → Put (eventLines s left a) l n r e
-unfolding rowsFrom
-line-more s zero a b h w p q = absurd (omega (arith, h))
-line-more {l} {k} {e} {n} {m} {r} s (suc left) a b h w p q =
-    let c : b ≡ placed (walks (entryOf Event) s (length s - 4) a) = sym (ap placed w) in
-    put-then p (subst (λ (x : ℕ). Put (eventLines s left x) k m r e) c (rw sub-one at q))
+line-more : {l k e : List ℕ} {n m r : ℕ} (s : List ℕ) (left a : ℕ) → 0 < left → Put (eventLine s a) l n m k
+    → Put (eventLines s (left - 1) (eventEnd s a)) k m r e → Put (eventLines s left a) l n r e
+unfolding eventLines
+line-more s zero a h p q = absurd (omega arith)
+line-more s (suc left) a h p q = put-then p (rw sub-one at q)
 
-pub record Left (s : List ℕ) (k : ℕ) (l : List ℕ) (n : ℕ) (out : List ℕ) (m a left : ℕ) : Type 0 where
+pub record Left (s : List ℕ) (k from : ℕ) (l : List ℕ) (n : ℕ) (out : List ℕ) (m a left : ℕ) : Type 0 where
   pub events : Events s left a
   pub size : length out ≡ length l
   pub inside : m ≤ length out
-  pub leads : (r : ℕ) (e : List ℕ) → Put (eventLines s left a) out m r e → Put (eventLines s k 10) l n r e
+  pub leads : (r : ℕ) (e : List ℕ) → Put (eventLines s left a) out m r e → Put (eventLines s k from) l n r e
 
-pub left-step : {s l out out' : List ℕ} {k n m m' a a' left : ℕ} → Left s k l n out m a left → 0 < left → Put (eventLine s a) out m m' out'
-    → a' ≡ eventEnd s a → Left s k l n out' m' a' (left - 1)
-left-step {s} {l} {out} {out'} {k} {n} {m} {m'} {a} {a'} {left} i h p q =
-    let v = i .events in
-    let w = many-inv _ left a (v .stands .0) h (v .stands .1) in
-    let b : w .0 ≡ a' = event-end s (length s - 4) a (w .0) (w .1 .0) ∙ sym q in
-    let f = entry-forward Event s (length s - 4) a (w .0) (w .1 .0) in
-    record {
-      events = record {
-        stands = (v .stands .0, subst (λ (x : ℕ). many (walks (entryOf Event) s (length s - 4)) (left - 1) x ≡ To (v .stands .0)) b (w .1 .1));
-        inside = omega (arith, b, f);
-        small = v .small;
-      };
+pub left-step : {s l out out' : List ℕ} {k from n m m' a a' left : ℕ} → Left s k from l n out m a left → 0 < left
+    → Put (eventLine s a) out m m' out' → a' ≡ eventEnd s a → Left s k from l n out' m' a' (left - 1)
+left-step {s} {l} {out} {out'} {k} {from} {n} {m} {m'} {a} {a'} {left} i h p q =
+    let next : Left s k from l n out' m' (eventEnd s a) (left - 1) = record {
+      events = events-step s left a (i .events) h;
       size = put-size p ∙ i .size;
       inside = put-inside p;
-      leads = λ r e t. i .leads r e (line-more s left a (w .0) h (w .1 .0) p (subst (λ (x : ℕ). Put (eventLines s (left - 1) x) out' m' r e) (sym b) t));
-    }
+      leads = λ r e t. i .leads r e (line-more s left a h p t);
+    } in
+    subst (λ (x : ℕ). Left s k from l n out' m' x (left - 1)) (sym q) next
 
-pub left-done : {s l out : List ℕ} {k n m a left : ℕ} → Left s k l n out m a left → left ≡ 0 → Put (eventLines s k 10) l n m out
-unfolding rowsFrom
-left-done {s} {l} {out} {k} {n} {m} {a} {left} i e = i .leads m out (rw e (put-nothing out m m (omega (arith, i .inside))))
+pub left-done : {s l out : List ℕ} {k from n m a left : ℕ} → Left s k from l n out m a left → left ≡ 0 → Put (eventLines s k from) l n m out
+unfolding eventLines
+left-done {s} {l} {out} {k} {from} {n} {m} {a} {left} i e = i .leads m out (rw e (put-nothing out m m (omega (arith, i .inside))))

@@ -1,18 +1,18 @@
 -- What is printed for a section and for a record, by the tests in their order.
-use Prim.Native.Nat.{ℕ, _+_, _%_, _≤_, _<_}
+use Prim.Native.Nat.{ℕ, _≤_, _<_}
 use mathlib.Core.Path.{_≡_, refl, sym, ap, subst}
-use mathlib.Core.Bool.{Bool, true, false}
+use mathlib.Core.Bool.{Bool, false}
 use mathlib.Core.List.{List}
 use lib.ListN.{length}
-use Rattle.bytes_at.specs.Fields.{wordAt}
-use Rattle.bytes_at.proofs.ChoiceLaws.{lt-yes, lt-no, eq-yes, eq-no}
+use Rattle.logic.proofs.ChoiceLaws.{lt-yes, lt-no, eq-yes, eq-no}
 use Rattle.refusal.specs.Outcomes.{Outcome}
 use Rattle.kind.specs.Kinds.{kindOf}
 use Rattle.section.specs.declared.header.Header.{Header}
 use Rattle.section.specs.Sections.{sectionBy}
+use Rattle.record.specs.Records.{whole}
 use Rattle.lines.specs.Lines.{refusalShown, outcomeShown, sectionShown}
-use Rattle.lines.specs.Records.{lastLine, whole, Printed, byWhole, printed}
-use Rattle.lines.specs.Output.{Put}
+use Rattle.lines.specs.Records.{lastLine, Printed, byWhole, printed}
+use Rattle.shown.specs.Output.{Put}
 
 module _ (pid : ℕ) (s : List ℕ) where
   pub no-pid : 8191 < pid → refusalShown 15 ≡ sectionShown pid s
@@ -22,16 +22,6 @@ module _ (pid : ℕ) (s : List ℕ) where
   pub a-pid : (o : Outcome Header) → pid ≤ 8191 → sectionBy kindOf s ≡ o → outcomeShown pid s o ≡ sectionShown pid s
   unfolding sectionShown
   a-pid o h e = lt-no 8191 pid (refusalShown 15) (outcomeShown pid s (sectionBy kindOf s)) h (ap (outcomeShown pid s) (sym e))
-
--- ---- whether a record is whole
-module _ (r : List ℕ) (long : 7 ≤ length r) (mark : wordAt r 0 ≡ 0xA55A) where
-  pub cut-off : length r < 7 + wordAt r 5 % 4096 → false ≡ whole r
-  unfolding whole
-  cut-off h = lt-no (length r) 7 false _ long (eq-yes (wordAt r 0) 0xA55A _ false mark (lt-yes (length r) (7 + wordAt r 5 % 4096) false true h refl))
-
-  pub all-there : 7 + wordAt r 5 % 4096 ≤ length r → true ≡ whole r
-  unfolding whole
-  all-there h = lt-no (length r) 7 false _ long (eq-yes (wordAt r 0) 0xA55A _ false mark (lt-no (length r) (7 + wordAt r 5 % 4096) false true h refl))
 
 module _ (n : ℕ) (r : List ℕ) where
   abbrev at-end : Printed

@@ -1,7 +1,3 @@
--- The definitions, in reading order; Inner is for the private functions.
-pub mod Ascii
-pub mod Titles
+-- The definitions, in reading order.
 pub mod Lines
 pub mod Records
-pub mod Output
-pub mod Inner

@@ -1,24 +1,17 @@
--- Document 01, "The lister": the lines of a section.
-use Prim.Native.Nat.{ℕ}
-use mathlib.Core.List.{List, _++_}
-use Rattle.bytes_at.specs.Choices.{ifLt}
-use Rattle.bytes_at.specs.Fields.{byteAt}
+-- SCOPE 8.2: the lines of a section.
+use Prim.Native.Nat.{ℕ, zero, suc}
+use mathlib.Core.List.{List, [], _++_}
+use Rattle.logic.specs.Choices.{ifLt}
 use Rattle.refusal.specs.Outcomes.{Outcome, refused, result}
 use Rattle.kind.specs.declared.Kind.{Kind}
 use Rattle.kind.specs.declared.Kind.the-variants.{Mgt, Tvct, Rrt, Eit, Ett}
-use Rattle.kind.specs.Kinds.{kindOf}
-use Rattle.body.specs.declared.entry.Entry.the-variants as sorts
+use Rattle.kind.specs.Kinds.{limitsOf, kindOf}
+use Rattle.eit.specs.declared.event.Event.{Event}
+use Rattle.eit.specs.Fields.{countAt, firstAt, eventAt, eventEnd}
 use Rattle.section.specs.declared.header.Header.{Header}
 use Rattle.section.specs.Sections.{sectionBy}
-use Rattle.table.specs.declared.eit.Event.{Event}
-use Rattle.table.specs.Parts.{rowsFrom}
-use Rattle.table.specs.Eits.{eventRow, eventOf}
-use Rattle.lines.specs.Ascii.{ascii, decimal}
-use Rattle.lines.specs.Titles.{titleShown}
-
--- a word and a number
-unfoldable pub field : List ℕ → ℕ → List ℕ
-field w x = w ++ decimal x
+use Rattle.shown.specs.Ascii.{ascii, decimal, field}
+use Rattle.shown.specs.Titles.{titleShown}
 
 unfoldable pub kindWord : Kind → List ℕ
 kindWord Mgt = ascii " mgt "
@@ -43,20 +36,24 @@ timesShown e =
 
 -- the line of the event that begins at a
 unfoldable pub eventLine : List ℕ → ℕ → List ℕ
-eventLine s a =
-    timesShown (eventOf s (eventRow s a)) ++ (ascii " title " ++ (titleShown s (eventOf s (eventRow s a) .title) ++ ascii "\n"))
+eventLine s a = timesShown (eventAt s a) ++ (ascii " title " ++ (titleShown s (eventAt s a .title) ++ ascii "\n"))
 
 -- the lines of n events, the first of which begins at a
-abbrev pub eventLines : List ℕ → ℕ → ℕ → List ℕ
-eventLines s n a = rowsFrom eventLine sorts.Event s n a
+unfoldable pub eventLines : List ℕ → ℕ → ℕ → List ℕ
+eventLines s zero a = []
+eventLines s (suc n) a = eventLine s a ++ eventLines s n (eventEnd s a)
+
+-- the count of events, and their lines, where the body begins at `at`
+unfoldable pub eventsShown : List ℕ → ℕ → List ℕ
+eventsShown s at = field (ascii " events ") (countAt s at) ++ (ascii "\n" ++ eventLines s (countAt s at) (firstAt at))
 
 -- ---- a section
--- what follows the section's own fields: of an EIT the count of events, and their lines
+-- what follows the section's own fields: of an EIT its events
 unfoldable pub restShown : List ℕ → Kind → List ℕ
 restShown s Mgt = ascii "\n"
 restShown s Tvct = ascii "\n"
 restShown s Rrt = ascii "\n"
-restShown s Eit = field (ascii " events ") (byteAt s 9) ++ (ascii "\n" ++ eventLines s (byteAt s 9) 10)
+restShown s Eit = eventsShown s (limitsOf Eit .body)
 restShown s Ett = ascii "\n"
 
 -- the number of the refusal, or the section

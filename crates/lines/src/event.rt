@@ -1,25 +1,26 @@
 // The lines of the events of an EIT that was judged.
-use crate::put::least;
-use crate::put::put_all;
-use crate::put::put_field;
-use crate::title::put_title;
-use bytes_at::byte;
-use bytes_at::word;
-use table::eit::Event;
-use table::eit::Title;
-use table::eit::title_of;
-use table::inner::event_at;
+use eit::Event;
+use eit::Title;
+use eit::count;
+use eit::event_at;
+use eit::event_end;
+use eit::first;
+use shown::least;
+use shown::put_all;
+use shown::put_field;
+use shown::put_title;
 ghost use mathlib.Core.Path.{_≡_};
 ghost use mathlib.Core.List.{_++_};
 ghost use Prim.Native.Nat.{_≤_};
 ghost use lib.ListN.{length};
 ghost use Rattle.text.specs.Inner.{Tables};
-ghost use Rattle.table.specs.Eits.{eventOf, eventRow, eventEnd};
-ghost use Rattle.lines.specs.Ascii.{ascii};
-ghost use Rattle.lines.specs.Titles.{titleShown};
-ghost use Rattle.lines.specs.Lines.{timesShown, eventLine, eventLines};
-ghost use Rattle.lines.specs.Output.{Put};
-ghost use Rattle.lines.specs.Inner.{Placed, Events};
+ghost use Rattle.eit.specs.Fields.{countAt, firstAt, eventAt};
+ghost use Rattle.eit.specs.Inner.{Events};
+ghost use Rattle.shown.specs.Ascii.{ascii};
+ghost use Rattle.shown.specs.Titles.{titleShown};
+ghost use Rattle.lines.specs.Lines.{timesShown, eventLine, eventLines, eventsShown};
+ghost use Rattle.shown.specs.Output.{Put};
+ghost use Rattle.shown.specs.Inner.{Placed};
 
 fn put_times(out: &mut [u8], n: usize, e: Event) -> usize
     ensures { λ r. ⌜ Put (timesShown e) (now (out .entry)) n r (now (out .exit)) ⌝ }
@@ -47,14 +48,6 @@ fn put_rest(
     put_all(out, end, b"\n")
 }
 
-// The title of the event that begins at a.
-fn title_at(s: &[u8], a: usize) -> Title
-    requires { ⌜ a ≤ length (now s) ⌝ }
-    ensures { λ r. ⌜ (r ≡ eventOf (now (s .entry)) (eventRow (now (s .entry)) a) .title) × Placed (length (now (s .entry))) r ⌝ }
-{
-    title_of(s, a + 10, byte(s, a + 9))
-}
-
 fn put_event(
     titles: &[u8],
     descriptions: &[u8],
@@ -64,21 +57,13 @@ fn put_event(
     out: &mut [u8],
     n: usize,
 ) -> usize
-    requires { ⌜ Tables (now titles) (now descriptions) × ((a ≤ length (now s)) × (length (now units) ≡ 2040)) ⌝ }
+    requires { ⌜ Tables (now titles) (now descriptions) × ((a ≤ length (now s)) × (Placed (length (now s)) (eventAt (now s) a .title) × (length (now units) ≡ 2040))) ⌝ }
     ensures { λ r. ⌜ Put (eventLine (now (s .entry)) a) (now (out .entry)) n r (now (out .exit)) ⌝ }
 {
     let e = event_at(s, a);
+    let t = e.title;
     let m = put_times(out, n, e);
-    let t = title_at(s, a);
     put_rest(titles, descriptions, s, t, units, out, m)
-}
-
-fn event_end(s: &[u8], a: usize) -> usize
-    requires { ⌜ (a ≤ length (now s)) × (length (now s) ≤ 4096) ⌝ }
-    ensures { λ r. ⌜ r ≡ eventEnd (now (s .entry)) a ⌝ }
-{
-    let n = byte(s, a + 9);
-    a + 12 + n + word(s, a + 10 + n) % 4096
 }
 
 fn put_events(
@@ -86,15 +71,16 @@ fn put_events(
     descriptions: &[u8],
     s: &[u8],
     k: usize,
+    from: usize,
     units: &mut [u16],
     out: &mut [u8],
     n: usize,
 ) -> usize
-    requires { ⌜ Tables (now titles) (now descriptions) × (Events (now s) k 10 × (length (now units) ≡ 2040)) ⌝ }
-    ensures { λ r. ⌜ Put (eventLines (now (s .entry)) k 10) (now (out .entry)) n r (now (out .exit)) ⌝ }
+    requires { ⌜ Tables (now titles) (now descriptions) × (Events (now s) k from × (length (now units) ≡ 2040)) ⌝ }
+    ensures { λ r. ⌜ Put (eventLines (now (s .entry)) k from) (now (out .entry)) n r (now (out .exit)) ⌝ }
 {
     let mut m = least(out.len(), n);
-    let mut a = 10;
+    let mut a = from;
     let mut left = k;
     while 0 < left {
         m = put_event(titles, descriptions, s, a, units, out, m);
@@ -105,12 +91,23 @@ fn put_events(
 }
 
 // The tables and the units are there once for all titles.
-pub fn list_events(s: &[u8], k: usize, out: &mut [u8], n: usize) -> usize
-    requires { ⌜ Events (now s) k 10 ⌝ }
-    ensures { λ r. ⌜ Put (eventLines (now (s .entry)) k 10) (now (out .entry)) n r (now (out .exit)) ⌝ }
+fn list_events(s: &[u8], k: usize, from: usize, out: &mut [u8], n: usize) -> usize
+    requires { ⌜ Events (now s) k from ⌝ }
+    ensures { λ r. ⌜ Put (eventLines (now (s .entry)) k from) (now (out .entry)) n r (now (out .exit)) ⌝ }
 {
     let titles = annex_c::titles();
     let descriptions = annex_c::descriptions();
     let mut units = [0u16; 2040];
-    put_events(&titles, &descriptions, s, k, &mut units, out, n)
+    put_events(&titles, &descriptions, s, k, from, &mut units, out, n)
+}
+
+// The count of events, and their lines, where the body begins at `at`.
+pub fn put_eit(s: &[u8], at: usize, out: &mut [u8], n: usize) -> usize
+    requires { ⌜ Events (now s) (countAt (now s) at) (firstAt at) ⌝ }
+    ensures { λ r. ⌜ Put (eventsShown (now (s .entry)) at) (now (out .entry)) n r (now (out .exit)) ⌝ }
+{
+    let k = count(s, at);
+    let m = put_field(out, n, b" events ", k);
+    let x = put_all(out, m, b"\n");
+    list_events(s, k, first(at), out, x)
 }

@@ -1,18 +1,18 @@
-// The records of the input, and what is printed for each.
-use crate::put::put_all;
-use crate::put::put_field;
-use crate::put::put_number;
+// What is printed for each record of the input.
 use crate::sections::put_section;
-use bytes_at::word;
-use part::part_of;
+use record::is_whole;
+use record::pid_of;
+use record::section_of;
+use shown::put_all;
+use shown::put_field;
+use shown::put_number;
 ghost use mathlib.Core.Path.{_≡_};
-ghost use Prim.Native.Nat.{_≤_, _<_};
 ghost use mathlib.Core.List.{_++_};
-ghost use Rattle.bytes_at.specs.Fields.{wordAt};
-ghost use Rattle.lines.specs.Ascii.{ascii, decimal};
+ghost use Rattle.record.specs.Records.{pidIn, sectionIn};
+ghost use Rattle.shown.specs.Ascii.{ascii, decimal};
 ghost use Rattle.lines.specs.Lines.{sectionShown};
-ghost use Rattle.lines.specs.Records.{firstLine, lastLine, toCome, whole, sectionIn, printed};
-ghost use Rattle.lines.specs.Output.{Put};
+ghost use Rattle.lines.specs.Records.{firstLine, lastLine, printed};
+ghost use Rattle.shown.specs.Output.{Put};
 
 // How many bytes of the output were put, and whether the run goes on.
 pub struct Listed {
@@ -25,34 +25,6 @@ pub fn begin(out: &mut [u8]) -> usize
     ensures { λ r. ⌜ Put firstLine (now (out .entry)) 0 r (now (out .exit)) ⌝ }
 {
     put_all(out, 0, b"guide lister\n")
-}
-
-// How many bytes of a record follow its first seven.
-pub fn to_come(head: &[u8]) -> usize
-    ensures { λ r. ⌜ (r ≡ toCome (now (head .entry))) × (r < 4096) ⌝ }
-{
-    if head.len() < 7 {
-        return 0;
-    }
-    if word(head, 0) == 0xA55A {
-        return word(head, 5) % 4096;
-    }
-    0
-}
-
-fn is_whole(bytes: &[u8]) -> bool
-    ensures { λ r. ⌜ r ≡ whole (now (bytes .entry)) ⌝ }
-{
-    if bytes.len() < 7 {
-        return false;
-    }
-    if word(bytes, 0) != 0xA55A {
-        return false;
-    }
-    if bytes.len() < 7 + word(bytes, 5) % 4096 {
-        return false;
-    }
-    true
 }
 
 fn put_last(out: &mut [u8], n: usize, number: usize) -> usize
@@ -71,11 +43,10 @@ fn put_bad(out: &mut [u8], number: usize) -> usize
 }
 
 fn put_record(number: usize, bytes: &[u8], out: &mut [u8]) -> usize
-    ensures { λ r. ⌜ Put (decimal number ++ sectionShown (wordAt (now (bytes .entry)) 2) (sectionIn (now (bytes .entry)))) (now (out .entry)) 0 r (now (out .exit)) ⌝ }
+    ensures { λ r. ⌜ Put (decimal number ++ sectionShown (pidIn (now (bytes .entry))) (sectionIn (now (bytes .entry)))) (now (out .entry)) 0 r (now (out .exit)) ⌝ }
 {
     let n = put_number(out, 0, number);
-    let section = part_of(bytes, 4, 3 + word(bytes, 5) % 4096);
-    put_section(word(bytes, 2), section, out, n)
+    put_section(pid_of(bytes), section_of(bytes), out, n)
 }
 
 // The lines of a record, its bytes as far as the input had them: none at the input's end.

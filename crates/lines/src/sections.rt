@@ -1,24 +1,22 @@
 // The lines of a section.
-use crate::event::list_events;
-use crate::put::number_of;
-use crate::put::put_all;
-use crate::put::put_field;
-use crate::put::put_number;
-use bytes_at::byte;
+use crate::event::put_eit;
 use kind::Kind;
 use refusal::Refusal;
 use section::Head;
 use section::Header;
+use section::inner::body_start;
 use section::judge_any;
+use shown::number_of;
+use shown::put_all;
+use shown::put_field;
+use shown::put_number;
 ghost use mathlib.Core.Path.{_≡_};
 ghost use Rattle.refusal.specs.Numbers.{numberOf};
 ghost use Rattle.refusal.specs.Outcomes.{result};
 ghost use Rattle.kind.specs.Kinds.{kindOf};
 ghost use Rattle.section.specs.Sections.{sectionBy};
-ghost use Rattle.bytes_at.specs.Fields.{byteAt};
 ghost use Rattle.lines.specs.Lines.{kindWord, keyShown, editionShown, restShown, refusalShown, outcomeShown, sectionShown};
-ghost use Rattle.lines.specs.Output.{Put};
-ghost use Rattle.lines.specs.Inner.{Events};
+ghost use Rattle.shown.specs.Output.{Put};
 
 fn put_kind(out: &mut [u8], n: usize, kind: Kind) -> usize
     ensures { λ r. ⌜ Put (kindWord kind) (now (out .entry)) n r (now (out .exit)) ⌝ }
@@ -49,23 +47,13 @@ fn put_edition(out: &mut [u8], n: usize, h: Header) -> usize
     put_field(out, last, b"/", h.last)
 }
 
-// Of an EIT the count of events, and their lines.
-fn put_eit(s: &[u8], out: &mut [u8], n: usize) -> usize
-    requires { ⌜ Events (now s) (byteAt (now s) 9) 10 ⌝ }
-    ensures { λ r. ⌜ Put (restShown (now (s .entry)) Kind.Eit) (now (out .entry)) n r (now (out .exit)) ⌝ }
+fn put_body(s: &[u8], h: Header, out: &mut [u8], n: usize) -> usize
+    requires { ⌜ sectionBy kindOf (now s) ≡ result h ⌝ }
+    ensures { λ r. ⌜ Put (restShown (now (s .entry)) (h .kind)) (now (out .entry)) n r (now (out .exit)) ⌝ }
 {
-    let k = byte(s, 9);
-    let m = put_field(out, n, b" events ", k);
-    let x = put_all(out, m, b"\n");
-    list_events(s, k, out, x)
-}
-
-fn put_body(s: &[u8], kind: Kind, out: &mut [u8], n: usize) -> usize
-    requires { ⌜ (kind ≡ Kind.Eit → Events (now s) (byteAt (now s) 9) 10) ⌝ }
-    ensures { λ r. ⌜ Put (restShown (now (s .entry)) kind) (now (out .entry)) n r (now (out .exit)) ⌝ }
-{
+    let kind = h.kind;
     match kind {
-        Kind::Eit => put_eit(s, out, n),
+        Kind::Eit => put_eit(s, body_start(kind), out, n),
         Kind::Mgt => put_all(out, n, b"\n"),
         Kind::Tvct => put_all(out, n, b"\n"),
         Kind::Rrt => put_all(out, n, b"\n"),
@@ -77,10 +65,9 @@ fn put_sound(pid: usize, s: &[u8], h: Header, out: &mut [u8], n: usize) -> usize
     requires { ⌜ sectionBy kindOf (now s) ≡ result h ⌝ }
     ensures { λ r. ⌜ Put (outcomeShown pid (now (s .entry)) (result h)) (now (out .entry)) n r (now (out .exit)) ⌝ }
 {
-    let kind = h.kind;
     let m = put_key(out, n, pid, h);
     let x = put_edition(out, m, h);
-    put_body(s, kind, out, x)
+    put_body(s, h, out, x)
 }
 
 fn put_refusal(out: &mut [u8], n: usize, k: Refusal) -> usize

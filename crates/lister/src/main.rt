@@ -1,11 +1,10 @@
 // The lister: reads records from standard input and prints what each holds, one write a record. What is printed is made by `lines`;
 // here are only the reading and the writing.
+use record::HEAD;
+use record::LARGEST;
 ghost use mathlib.Core.Path.{_≡_};
 ghost use Prim.Native.Nat.{_≤_};
 ghost use lib.ListN.{length};
-
-// Room for the longest record: seven bytes, and as many as a section_length of 12 bits can say.
-const RECORD: usize = 4102;
 
 // Room for the lines of any record.
 const LINES: usize = 262144;
@@ -15,12 +14,12 @@ fn read_record(room: &mut [u8]) -> usize
     requires { ⌜ length (now room) ≡ 4102 ⌝ }
     ensures { λ r. ⌜ r ≤ length (now (room .exit)) ⌝ }
 {
-    let head = io::read_full(0, &mut room[..7]);
-    if head < 7 {
+    let head = io::read_full(0, &mut room[..HEAD]);
+    if head < HEAD {
         return head;
     }
-    let end = 7 + lines::to_come(&room[..7]);
-    7 + io::read_full(0, &mut room[7..end])
+    let end = HEAD + record::to_come(&room[..HEAD]);
+    HEAD + io::read_full(0, &mut room[HEAD..end])
 }
 
 // Every record, as it comes, until the input ends or the output takes no more.
@@ -47,7 +46,7 @@ fn list(room: &mut [u8], out: &mut [u8])
 }
 
 fn main() {
-    let mut record = [0u8; RECORD];
+    let mut record = [0u8; LARGEST];
     let mut out = [0u8; LINES];
     list(&mut record, &mut out);
 }

@@ -2,17 +2,17 @@
 use mathlib.Core.Path.{_≡_, refl}
 use native.Mathlib.Omega.{arith}
 use lib.ListN.{length}
-use Rattle.lines.proofs.PutLaws.{put-nothing, put-then}
-use Rattle.lines.proofs.EventLaws.{Left, left-step, left-done}
+use Rattle.shown.proofs.PutLaws.{put-nothing, put-then}
+use Rattle.lines.proofs.EventLaws.{title-placed, Left, left-step, left-done}
 use borrow.Author.Needs.{needs}
 use Rattle.lines.proofs.event.put_events.Statement.{statement}
 use Rattle.lines.proofs.event.put_events.Tie as tie
 
 abbrev Inv-loop : tie.InvT-loop
-Inv-loop titles descriptions s k units₀ out₀ n m₀ a₀ left₀ units out m a left = (length units ≡ 2040) × Left s k out₀ n out m a left
+Inv-loop titles descriptions s k from units₀ out₀ n m₀ a₀ left₀ units out m a left = (length units ≡ 2040) × Left s k from out₀ n out m a left
 
 abbrev μ-loop : tie.MeasureT-loop
-μ-loop titles descriptions s k units₀ out₀ n m₀ a₀ left₀ units out m a left = left
+μ-loop titles descriptions s k from units₀ out₀ n m₀ a₀ left₀ units out m a left = left
 
 least-requires : tie.Need-least-requires Inv-loop μ-loop
 least-requires c κs = search needs
@@ -33,12 +33,12 @@ loop-holds c =
 put-event-requires : tie.Need-put-event-requires Inv-loop μ-loop
 put-event-requires c κs =
     let i = c .before .before .before .loop .inv in
-    (c .before .before .before .before .before .before .before .before .before .before .pre .0, (i .1 .events .inside, i .0))
+    let z = c .before .before .before .before .before .before .before .shared-slice-known3 .given in
+    let t = title-placed _ _ _ (λ j. omega (arith, z j)) (i .1 .events) (c .before .before .loop-test .taken) in
+    (c .before .before .before .before .before .before .before .before .before .before .pre .0, (i .1 .events .begins, (t, i .0)))
 
 event-end-requires : tie.Need-event-end-requires Inv-loop μ-loop
-event-end-requires c κs =
-    let i = c .before .before .before .before .before .before .before .before .loop .inv in
-    (i .1 .events .inside, i .1 .events .small)
+event-end-requires c κs = c .before .before .before .before .before .before .before .before .loop .inv .1 .events .begins
 
 sub-left : tie.Need-sub-left Inv-loop μ-loop
 sub-left c = search needs

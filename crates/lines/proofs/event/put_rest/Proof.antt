@@ -1,5 +1,5 @@
 -- `put_rest` meets its contract.
-use Rattle.lines.proofs.PutLaws.{put-then}
+use Rattle.shown.proofs.PutLaws.{put-then}
 use borrow.Author.Needs.{needs}
 use Rattle.lines.proofs.event.put_rest.Statement.{statement}
 use Rattle.lines.proofs.event.put_rest.Tie as tie

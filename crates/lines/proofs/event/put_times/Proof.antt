@@ -1,6 +1,6 @@
 -- `put_times` meets its contract.
 use Rattle.lines.specs.Lines.{timesShown}
-use Rattle.lines.proofs.PutLaws.{put-then}
+use Rattle.shown.proofs.PutLaws.{put-then}
 use borrow.Author.Needs.{needs}
 use Rattle.lines.proofs.event.put_times.Statement.{statement}
 use Rattle.lines.proofs.event.put_times.Tie as tie

@@ -1,5 +1,5 @@
 -- `put_bad` meets its contract.
-use Rattle.lines.proofs.PutLaws.{put-then}
+use Rattle.shown.proofs.PutLaws.{put-then}
 use borrow.Author.Needs.{needs}
 use Rattle.lines.proofs.records.put_bad.Statement.{statement}
 use Rattle.lines.proofs.records.put_bad.Tie as tie

@@ -1,6 +1,6 @@
 -- `put_last` meets its contract.
 use Rattle.lines.specs.Records.{lastLine}
-use Rattle.lines.proofs.PutLaws.{put-then}
+use Rattle.shown.proofs.PutLaws.{put-then}
 use borrow.Author.Needs.{needs}
 use Rattle.lines.proofs.records.put_last.Statement.{statement}
 use Rattle.lines.proofs.records.put_last.Tie as tie

@@ -1,5 +1,5 @@
 -- `put_record` meets its contract.
-use Rattle.lines.proofs.PutLaws.{put-then}
+use Rattle.shown.proofs.PutLaws.{put-then}
 use borrow.Author.Needs.{needs}
 use Rattle.lines.proofs.records.put_record.Statement.{statement}
 use Rattle.lines.proofs.records.put_record.Tie as tie
@@ -7,17 +7,11 @@ use Rattle.lines.proofs.records.put_record.Tie as tie
 put-number-requires : tie.Need-put-number-requires
 put-number-requires c κs = search needs
 
-word-requires : tie.Need-word-requires
-word-requires c κs = search needs
+pid-of-requires : tie.Need-pid-of-requires
+pid-of-requires c κs = search needs
 
-add-part-of : tie.Need-add-part-of
-add-part-of c = search needs
-
-part-of-requires : tie.Need-part-of-requires
-part-of-requires c κs = search needs
-
-word-requires-2 : tie.Need-word-requires-2
-word-requires-2 c κs = search needs
+section-of-requires : tie.Need-section-of-requires
+section-of-requires c κs = search needs
 
 put-section-requires : tie.Need-put-section-requires
 put-section-requires c κs = search needs
@@ -27,19 +21,17 @@ same-length c = search needs
 
 returns : tie.Need-returns
 returns c =
-    let d = c .before .before .before .before in
+    let d = c .before .before .before .before .before in
     let p = c .before .before .put-section .ensures in
-    put-then (d .before .before .before .before .before .put-number .ensures) (rw (d .word2 .ensures .0, d .before .part-of .ensures, d .before .before .word .ensures .0) at p)
+    put-then (d .before .before .before .put-number .ensures) (rw (d .pid-of .ensures .0, c .before .before .before .before .section-of .ensures) at p)
 
 pub put-record-spec : {M : Type 1} → statement M
 put-record-spec =
     tie.close
     (tie.spec
     put-number-requires
-    word-requires
-    add-part-of
-    part-of-requires
-    word-requires-2
+    pid-of-requires
+    section-of-requires
     put-section-requires
     same-length
     returns)

@@ -1,5 +1,6 @@
 -- `put_body` meets its contract.
 use Rattle.lines.specs.Lines.{restShown}
+use Rattle.lines.proofs.EventLaws.{section-events, events-rest}
 use borrow.Author.Needs.{needs}
 use Rattle.lines.proofs.sections.put_body.Statement.{statement}
 use Rattle.lines.proofs.sections.put_body.Tie as tie
@@ -7,8 +8,11 @@ use Rattle.lines.proofs.sections.put_body.Tie as tie
 enum-told : tie.Need-enum-told
 enum-told c = search needs
 
+body-start-requires : tie.Need-body-start-requires
+body-start-requires c κs = search needs
+
 put-eit-requires : tie.Need-put-eit-requires
-put-eit-requires c κs = c .before .before .before .before .before .pre (c .before .enum-told .given .1)
+put-eit-requires c κs = section-events _ _ _ (c .before .before .before .before .before .before .pre) (c .before .before .enum-told .given .1) (c .before .body-start .ensures .0)
 
 enum-told-2 : tie.Need-enum-told-2
 enum-told-2 c = search needs
@@ -50,7 +54,9 @@ same-length : tie.Need-same-length
 same-length c = search needs
 
 returns : tie.Need-returns
-returns c = rw (c .before .before .before .before .enum-told .given .1) (c .before .before .put-eit .ensures)
+returns c =
+    let d = c .before .before .before .before in
+    rw (events-rest _ _ _ (d .before .enum-told .given .1) (d .body-start .ensures .0)) at (c .before .before .put-eit .ensures)
 
 same-length-2 : tie.Need-same-length-2
 same-length-2 c = search needs
@@ -85,6 +91,7 @@ put-body-spec =
     tie.close
     (tie.spec
     enum-told
+    body-start-requires
     put-eit-requires
     enum-told-2
     slice-aggregate-put-all

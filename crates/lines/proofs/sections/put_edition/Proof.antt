@@ -1,6 +1,6 @@
 -- `put_edition` meets its contract.
 use Rattle.lines.specs.Lines.{editionShown}
-use Rattle.lines.proofs.PutLaws.{put-then}
+use Rattle.shown.proofs.PutLaws.{put-then}
 use borrow.Author.Needs.{needs}
 use Rattle.lines.proofs.sections.put_edition.Statement.{statement}
 use Rattle.lines.proofs.sections.put_edition.Tie as tie

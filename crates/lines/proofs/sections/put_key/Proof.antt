@@ -1,6 +1,6 @@
 -- `put_key` meets its contract.
 use Rattle.lines.specs.Lines.{keyShown}
-use Rattle.lines.proofs.PutLaws.{put-then}
+use Rattle.shown.proofs.PutLaws.{put-then}
 use borrow.Author.Needs.{needs}
 use Rattle.lines.proofs.sections.put_key.Statement.{statement}
 use Rattle.lines.proofs.sections.put_key.Tie as tie

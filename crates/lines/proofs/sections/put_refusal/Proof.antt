@@ -1,6 +1,6 @@
 -- `put_refusal` meets its contract.
 use Rattle.lines.specs.Lines.{refusalShown}
-use Rattle.lines.proofs.PutLaws.{put-then}
+use Rattle.shown.proofs.PutLaws.{put-then}
 use borrow.Author.Needs.{needs}
 use Rattle.lines.proofs.sections.put_refusal.Statement.{statement}
 use Rattle.lines.proofs.sections.put_refusal.Tie as tie

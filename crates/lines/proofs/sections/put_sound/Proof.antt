@@ -1,7 +1,6 @@
 -- `put_sound` meets its contract.
 use Rattle.lines.specs.Lines.{outcomeShown}
-use Rattle.lines.proofs.PutLaws.{put-then}
-use Rattle.lines.proofs.EventLaws.{section-events}
+use Rattle.shown.proofs.PutLaws.{put-then}
 use borrow.Author.Needs.{needs}
 use Rattle.lines.proofs.sections.put_sound.Statement.{statement}
 use Rattle.lines.proofs.sections.put_sound.Tie as tie
@@ -13,7 +12,7 @@ put-edition-requires : tie.Need-put-edition-requires
 put-edition-requires c κs = search needs
 
 put-body-requires : tie.Need-put-body-requires
-put-body-requires c κs = section-events _ _ (c .before .before .before .before .before .before .before .before .before .before .before .pre)
+put-body-requires c κs = c .before .before .before .before .before .before .before .before .before .before .before .pre
 
 same-length : tie.Need-same-length
 same-length c = search needs
