@@ -10,8 +10,8 @@ use Rattle.segment.specs.Bits.{bits, number}
 use Rattle.segment.specs.Text.{units}
 use Rattle.segment.specs.Segment.{endedText, cutText, codedText, rawText}
 use Rattle.segment.specs.Inner.{SymbolAt, Finds, answer, Outcome, CodedAt, RawAt}
-use Rattle.segment.specs.declared.Found.{Found}
-use Rattle.segment.specs.declared.Found.the-variants.{Symbol, Early}
+use Rattle.segment.specs.declared.ReadSymbol.{ReadSymbol}
+use Rattle.segment.specs.declared.ReadSymbol.the-variants.{Symbol, Early}
 use Rattle.segment.proofs.BitLaws.{length-bits}
 use Rattle.segment.proofs.TextLaws.{unit-stored}
 use Rattle.segment.proofs.SegmentLaws.{ended-fits, cut-fits, coded-cut, coded-end, coded-escape, coded-character, raw-missing, raw-above, raw-plain, coded-none, raw-none, coded-step, raw-step}
@@ -27,13 +27,13 @@ ended-out : (n r m : ℕ) (l : List ℕ) → r ≡ answer n (endedText m) → Ou
 ended-out n r m l e = record { answers = e; stores = rw (ended-fits m 0 .1) }
 
 -- what a find of this shape says
-pub found-early : (read : ℕ → List ℕ → Reading) (s : List ℕ) (at p : ℕ) {f : Found} → Finds read s at p f → f ≡ Early → read p
+pub found-early : (read : ℕ → List ℕ → Reading) (s : List ℕ) (at p : ℕ) {f : ReadSymbol} → Finds read s at p f → f ≡ Early → read p
     (drop at (bits s)) ≡ early
-found-early read s at p z e = subst (λ (g : Found). Finds read s at p g) e z
+found-early read s at p z e = subst (λ (g : ReadSymbol). Finds read s at p g) e z
 
-pub found-symbol : (read : ℕ → List ℕ → Reading) (s : List ℕ) (at p : ℕ) {f : Found} {u j : ℕ} → Finds read s at p f → f ≡ Symbol u j
+pub found-symbol : (read : ℕ → List ℕ → Reading) (s : List ℕ) (at p : ℕ) {f : ReadSymbol} {u j : ℕ} → Finds read s at p f → f ≡ Symbol u j
     → SymbolAt read s at p u j
-found-symbol read s at p z e = subst (λ (g : Found). Finds read s at p g) e z
+found-symbol read s at p z e = subst (λ (g : ReadSymbol). Finds read s at p g) e z
 
 -- a coded symbol that the bits cut
 pub coded-early : {read : ℕ → List ℕ → Reading} {s : List ℕ} {at p n r : ℕ} {l : List ℕ}

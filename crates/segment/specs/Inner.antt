@@ -8,8 +8,8 @@ use Rattle.annex_c.specs.Codes.{Reading, symbol, early}
 use Rattle.segment.specs.Bits.{bits}
 use Rattle.segment.specs.Text.{Text, done, refused, unit, units}
 use Rattle.segment.specs.Segment.{codedText, rawText}
-use Rattle.segment.specs.declared.Found.{Found}
-use Rattle.segment.specs.declared.Found.the-variants.{Symbol, Early}
+use Rattle.segment.specs.declared.ReadSymbol.{ReadSymbol}
+use Rattle.segment.specs.declared.ReadSymbol.the-variants.{Symbol, Early}
 
 -- after the prior symbol p the bits of s from `at` on begin with the symbol u, and the bit after it is `next`
 pub record SymbolAt (read : ℕ → List ℕ → Reading) (s : List ℕ) (at p u next : ℕ) : Type 0 where
@@ -18,7 +18,7 @@ pub record SymbolAt (read : ℕ → List ℕ → Reading) (s : List ℕ) (at p u
   pub inside : next ≤ 8 * length s
 
 -- what a find says
-abbrev pub Finds : (ℕ → List ℕ → Reading) → List ℕ → ℕ → ℕ → Found → Type 0
+abbrev pub Finds : (ℕ → List ℕ → Reading) → List ℕ → ℕ → ℕ → ReadSymbol → Type 0
 Finds read s at p Early = read p (drop at (bits s)) ≡ early
 Finds read s at p (Symbol u next) = SymbolAt read s at p u next
 

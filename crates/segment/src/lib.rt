@@ -5,7 +5,7 @@
 // A segment has at most 255 bytes, since its number_bytes is one byte, and each unit takes a bit or more: 2,040 units have room.
 pub mod inner;
 
-use crate::inner::put;
+use crate::inner::put_unit;
 use bytes_at::byte;
 ghost use mathlib.Core.Path.{_≡_};
 ghost use Prim.Native.Nat.{_+_, _*_, _<_, _≤_};
@@ -24,7 +24,7 @@ pub enum Judged {
 }
 
 // A coded symbol and the place of the bit after it, or bits that end early.
-enum Found {
+enum ReadSymbol {
     Symbol(u8, usize),
     Early,
 }
@@ -62,7 +62,7 @@ fn root_of(t: &[u8], prior: u8) -> usize
 }
 
 // One coded symbol, from bit `at` on.
-fn symbol_at(t: &[u8], s: &[u8], at: usize, prior: u8) -> Found
+fn symbol_at(t: &[u8], s: &[u8], at: usize, prior: u8) -> ReadSymbol
     requires { ⌜ length (now s) ≤ 255 ⌝ }
     ensures { λ r. ⌜ Finds (walked (now (t .entry))) (now (s .entry)) at prior r ⌝ }
 {
@@ -74,11 +74,11 @@ fn symbol_at(t: &[u8], s: &[u8], at: usize, prior: u8) -> Found
         let v = byte(t, base + (2 * node + bit_at(s, i)));
         i += 1;
         if 128 <= v {
-            return Found::Symbol((v - 128) as u8, i);
+            return ReadSymbol::Symbol((v - 128) as u8, i);
         }
         node = v;
     }
-    Found::Early
+    ReadSymbol::Early
 }
 
 // A symbol as a unit.
@@ -109,7 +109,7 @@ fn coded(t: &&[u8], s: &&[u8], at: usize, prior: u8, out: &mut [u16; 2040], n: u
 {
     let total = 8 * (*s).len();
     let f = symbol_at(*t, *s, at, prior);
-    let Found::Symbol(u, next) = f else {
+    let ReadSymbol::Symbol(u, next) = f else {
         return cut(total - at, n);
     };
     if u == 0 {
@@ -145,7 +145,7 @@ fn copy(o: &[u16], k: usize, out: &mut [u16], n: usize)
 {
     let mut i = 0;
     while i < k {
-        put(out, n, i, o[i]);
+        put_unit(out, n, i, o[i]);
         i += 1;
     }
 }

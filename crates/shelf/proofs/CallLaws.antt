@@ -3,8 +3,8 @@ use Prim.Native.Nat.{_+_, ℕ}
 use mathlib.Core.Path.{_∙_, _≡_, ap, ap₂, refl, sym}
 use mathlib.Core.Bool.{Bool, false, true}
 use native.Mathlib.Omega.{arith}
-use Rattle.bytes_at.proofs.ChoiceLaws.{eq-no, eq-yes}
-use Rattle.bytes_at.specs.Choices.{pick}
+use Rattle.logic.proofs.ChoiceLaws.{eq-no, eq-yes}
+use Rattle.logic.specs.Choices.{pick}
 use Rattle.refusal.specs.Outcomes.{refused, result}
 use Rattle.shelf_state.specs.Records.{watchAt}
 use Rattle.shelf_state.specs.declared.records.Shelf.{Shelf}

@@ -4,10 +4,10 @@ use mathlib.Core.Path.{_∙_, _≡_, ap, ap₂, refl, sym}
 use mathlib.Core.Bool.{Bool, false, true}
 use native.Mathlib.Omega.{arith}
 use borrow.Author.Tests.{eqb-true}
-use Rattle.bytes_at.specs.Choices.{pick}
+use Rattle.logic.specs.Choices.{pick}
 use Rattle.section.specs.declared.header.Header.{Header}
 use Rattle.shelf_state.proofs.DropLaws.{drop-nobody, drop-rules, place-is}
-use Rattle.shelf_state.proofs.LoopLaws.{and-left, and-right, isnt}
+use Rattle.logic.proofs.LoopLaws.{and-left, and-right, isnt}
 use Rattle.shelf_state.proofs.RecordLaws.{isOf-i}
 use Rattle.shelf_state.proofs.RuleLaws.{Rules, one-watch, rules}
 use Rattle.shelf_state.proofs.WatchLaws.{Fits, at-other, at-same, new-rules}

@@ -7,8 +7,8 @@ use native.Mathlib.Omega.{arith}
 use lib.ListN.{length-set}
 use lib.Seq.{getD-set-other, getD-set-same}
 use borrow.Author.Tests.{ltb-true}
-use Rattle.bytes_at.specs.Choices.{pick}
-use Rattle.shelf_state.proofs.LoopLaws.{any-at, any-first, both, first-has, isnt, none-at, not-e, same-or-not, true-false}
+use Rattle.logic.specs.Choices.{pick}
+use Rattle.logic.proofs.LoopLaws.{any-at, any-first, both, first-has, isnt, none-at, not-e, same-or-not, true-false}
 use Rattle.shelf_state.proofs.RecordLaws.{holds-i, holds-parts}
 use Rattle.shelf_state.proofs.RuleLaws.{Owned, Rules, one-place, room-left}
 use Rattle.shelf_state.specs.Records.{blankPlace, freePlace, holds, isHeld, placeAt, placeOf, watchAt}

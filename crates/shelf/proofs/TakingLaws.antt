@@ -11,7 +11,7 @@ use Rattle.refusal.specs.Numbers.{numberOf}
 use Rattle.refusal.specs.Outcomes.{Outcome, refused, result}
 use Rattle.refusal.specs.declared.Refusal.{Refusal}
 use Rattle.section.specs.declared.header.Header.{Header}
-use Rattle.shelf_state.proofs.LoopLaws.{any-first}
+use Rattle.logic.proofs.LoopLaws.{any-first}
 use Rattle.shelf_state.proofs.RuleLaws.{Rules, found-live, in-range, rules}
 use Rattle.shelf_state.specs.Records.{isOf, watchAt, watchOf}
 use Rattle.shelf_state.specs.Rules.{obeys}

@@ -1,4 +1,4 @@
--- What each call answers: the document's number or its values, for every case of the answers' types, and the shelf after it.
+-- What each call answers: the number of SCOPE 6 or its values, for every case of the answers' types, and the shelf after it.
 use Prim.Native.Nat.{ℕ}
 use Rattle.refusal.specs.Numbers.{numberOf}
 use Rattle.refusal.specs.Outcomes.{Outcome, refused, result}

@@ -1,10 +1,10 @@
--- Document 01, "The shelf" and the orders of "Refusal numbers": what each call answers, and the shelf after it.
+-- SCOPE 3.5, 5.2, 5.7 and 5.8, with the orders of SCOPE 6.2: what each call answers, and the shelf after it.
 use Prim.Native.Nat.{ℕ, _+_, _*_}
 use mathlib.Core.Bool.{Bool, true, false, not}
 use lib.Dec.{leb}
-use Rattle.bytes_at.specs.Choices.{pick, ifEq}
+use Rattle.logic.specs.Choices.{pick, ifEq}
 use Rattle.refusal.specs.Outcomes.{refused, result}
-use Rattle.shelf_state.specs.Loops.{any, count}
+use Rattle.logic.specs.Loops.{any, count}
 use Rattle.shelf_state.specs.Records.{blankWatch, watchAt, placeAt, keyOf, watched, watchOf, freeRecord, isHeld, placeOf, setWatch, dropped, emptyShelf}
 use Rattle.shelf_state.specs.Rules.{promised, inRange, sizesInRange, obeys}
 use Rattle.shelf_state.specs.declared.records.Asked.{Asked}

@@ -1,4 +1,4 @@
--- Document 01, "Delivery": what a delivered section does to the shelf and its area. 14, 15, 1 to 9, 16, 17, 18.
+-- SCOPE 5.5 and 5.6: what a delivered section does to the shelf and its area. SCOPE 6.2, its order: 14, 15, 1 to 9, 16, 17, 18.
 use Prim.Native.Nat.{ℕ, _+_, _*_, _≤_, _<_}
 use mathlib.Core.Path.{_≡_}
 use mathlib.Core.Bool.{Bool, true, not}
@@ -6,14 +6,14 @@ use mathlib.Core.List.{List}
 use lib.Dec.{leb, eqb}
 use lib.ListN.{length}
 use lib.Seq.{paste}
-use Rattle.bytes_at.specs.Choices.{pick}
+use Rattle.logic.specs.Choices.{pick}
 use Rattle.bytes_at.specs.Fields.{byteAt, wordAt}
 use Rattle.kind.specs.Kinds.{kindOf}
 use Rattle.refusal.specs.Numbers.{numberOf}
 use Rattle.refusal.specs.Outcomes.{Outcome, refused, result}
 use Rattle.section.specs.declared.header.Header.{Header}
 use Rattle.section.specs.Sections.{sectionBy}
-use Rattle.shelf_state.specs.Loops.{_&_}
+use Rattle.logic.specs.Loops.{_&_}
 use Rattle.shelf_state.specs.Records.{watchAt, watched, watchOf, isHeld, placeOf, freePlace, setWatch, setPlace, dropped}
 use Rattle.shelf_state.specs.Rules.{obeys}
 use Rattle.shelf_state.specs.declared.records.Asked.{Asked}

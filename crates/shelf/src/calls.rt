@@ -1,4 +1,4 @@
-// Opening, closing, status and fetching, each with its refusals in the document's order.
+// Opening, closing, status and fetching, each with its refusals in the order of SCOPE 6.2.
 use crate::answers::AfterChange;
 use crate::answers::AfterFetch;
 use crate::answers::AfterStatus;

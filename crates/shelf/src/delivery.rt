@@ -172,7 +172,7 @@ fn take(s: Shelf, a: Asked, h: Header, length: usize) -> AfterTaking
 }
 
 // The bytes, from a place of the area on.
-fn put(area: &mut [u8], at: usize, bytes: &[u8])
+fn store(area: &mut [u8], at: usize, bytes: &[u8])
     requires { ⌜ at + length (now bytes) ≤ length (now area) ⌝ }
     ensures { λ _. ⌜ now (area .exit) ≡ paste (now (area .entry)) at (now (bytes .entry)) (length (now (bytes .entry))) ⌝ }
 {
@@ -198,7 +198,7 @@ fn keep(s: Shelf, area: &mut [u8], a: Asked, h: Header, bytes: &[u8]) -> AfterCh
             shelf,
         },
         Taking::At(i) => {
-            put(area, i * 4096, bytes);
+            store(area, i * 4096, bytes);
             AfterChange {
                 answer: Change::Done,
                 shelf,

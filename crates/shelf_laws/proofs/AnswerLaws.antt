@@ -6,15 +6,15 @@ use mathlib.Core.List.{List}
 use mathlib.Core.Option.{Option, none, some}
 use lib.ListN.{drop, length, take}
 use borrow.Author.Tests.{ltb-true}
-use Rattle.bytes_at.specs.Choices.{pick}
+use Rattle.logic.specs.Choices.{pick}
 use Rattle.refusal.specs.Outcomes.{Outcome, refused, result}
 use Rattle.shelf.specs.Answers.{After, Bytes, Status, unheard}
 use Rattle.shelf.specs.Calls.{answered, countOf, fetched, fetchedFrom, heldNumbers, orRefuse, statusAfter, statusOf}
 use Rattle.shelf_laws.proofs.ViewLaws.{kept-held, view-none, view-some}
 use Rattle.shelf_laws.specs.Views.{View, atFirst, bytesAt, fetchV, heldV, isSome, keptAt, statusOfView, statusV, view, viewAt}
-use Rattle.shelf_state.proofs.CountLaws.{sum-cong}
-use Rattle.shelf_state.proofs.LoopLaws.{any-first, none-at}
-use Rattle.shelf_state.specs.Loops.{one}
+use Rattle.logic.proofs.CountLaws.{sum-cong}
+use Rattle.logic.proofs.LoopLaws.{any-first, none-at}
+use Rattle.logic.specs.Loops.{one}
 use Rattle.shelf_state.specs.Records.{isHeld, isOf, placeAt, placeOf, watchAt, watchOf, watched}
 use Rattle.shelf_state.specs.Rules.{obeys}
 use Rattle.shelf_state.specs.declared.records.Asked.{Asked}

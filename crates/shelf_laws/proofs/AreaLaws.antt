@@ -9,7 +9,7 @@ use lib.ListN.{List·getD-append, drop, getD, length, length-drop, take, take-ap
 use lib.Seq.{drop-at, ext-getD, getD-append-add, getD-drop, getD-take, length-paste, length-paste-head, length-take-le, paste, take-add, take-length, take-paste}
 use borrow.Author.Tests.{ltb-false, ltb-true}
 use Rattle.shelf_laws.specs.Views.{bytesAt}
-use Rattle.shelf_state.proofs.LoopLaws.{both}
+use Rattle.logic.proofs.LoopLaws.{both}
 
 module _ (d : List ℕ) (at : ℕ) (s : List ℕ) (h : at + length s ≤ length d) where
   abbrev P : List ℕ

@@ -13,7 +13,7 @@ use Rattle.shelf.specs.Calls.{answered, closed, orRefuse, refusedBy}
 use Rattle.shelf_laws.proofs.ViewLaws.{kept-same, same-view, view-keep, view-none, view-some}
 use Rattle.shelf_laws.specs.Views.{bytesAt, closeV, keptAt, quotaV, view, viewAt}
 use Rattle.shelf_state.proofs.DropLaws.{drop-nobody, drop-rules, place-is, release-other}
-use Rattle.shelf_state.proofs.LoopLaws.{any-first, first-has, isnt, none-at, same-or-not, true-false}
+use Rattle.logic.proofs.LoopLaws.{any-first, first-has, isnt, none-at, same-or-not, true-false}
 use Rattle.shelf_state.proofs.RecordLaws.{isOf-live, isOf-shut, two-keys}
 use Rattle.shelf_state.proofs.RuleLaws.{Rules, obeys-i, one-watch, quota-live, quota-shut, rules}
 use Rattle.shelf_state.proofs.WatchLaws.{Fits, at-other, at-same, new-rules, promise-moves}

@@ -10,7 +10,7 @@ use lib.Dec.{eqb, leb}
 use lib.ListN.{length}
 use lib.Seq.{paste}
 use borrow.Author.Tests.{eqb-false, eqb-true, le-leb, leb-true, ltb-true}
-use Rattle.bytes_at.specs.Choices.{pick}
+use Rattle.logic.specs.Choices.{pick}
 use Rattle.refusal.specs.Outcomes.{Outcome, refused, result}
 use Rattle.section.specs.declared.header.Header.{Header}
 use Rattle.shelf.proofs.EditLaws.{Edited, edited-facts}
@@ -22,11 +22,11 @@ use Rattle.shelf.specs.Delivery.{Sound, areaAfter, byJudge, delivering, done, e
 use Rattle.shelf_laws.proofs.KeptLaws.{edited-other, edited-own, put-other, put-own}
 use Rattle.shelf_laws.proofs.ViewLaws.{same-view, view-at, view-keep, view-none, view-some}
 use Rattle.shelf_laws.specs.Views.{View, afterV, currentOf, deliverV, heardAs, isEdition, keptAt, put, takes, view, viewAt}
-use Rattle.shelf_state.proofs.CountLaws.{sum-cong}
-use Rattle.shelf_state.proofs.LoopLaws.{any-first, both, first-has, isnt, none-at, same-or-not}
+use Rattle.logic.proofs.CountLaws.{sum-cong}
+use Rattle.logic.proofs.LoopLaws.{any-first, both, first-has, isnt, none-at, same-or-not}
 use Rattle.shelf_state.proofs.RecordLaws.{isOf-live, two-keys}
 use Rattle.shelf_state.proofs.RuleLaws.{Rules, obeys-i, one-watch, rules}
-use Rattle.shelf_state.specs.Loops.{_&_}
+use Rattle.logic.specs.Loops.{_&_}
 use Rattle.shelf_state.specs.Records.{asked, isOf, sameKey, watchAt, watchOf, watched}
 use Rattle.shelf_state.specs.Rules.{obeys, promised, promisedBelow, quotaOf}
 use Rattle.shelf_state.specs.declared.records.Asked.{Asked}

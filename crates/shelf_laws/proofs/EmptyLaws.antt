@@ -13,8 +13,8 @@ use Rattle.shelf.specs.Answers.{After}
 use Rattle.shelf.specs.Calls.{answered, made, orRefuse}
 use Rattle.shelf_laws.proofs.ViewLaws.{view-none}
 use Rattle.shelf_laws.specs.Views.{view}
-use Rattle.shelf_state.proofs.CountLaws.{sum-cong, sum-zero}
-use Rattle.shelf_state.proofs.LoopLaws.{and-left, and-right, true-false}
+use Rattle.logic.proofs.CountLaws.{sum-cong, sum-zero}
+use Rattle.logic.proofs.LoopLaws.{and-left, and-right, true-false}
 use Rattle.shelf_state.proofs.RecordLaws.{isOf-shut, replicate-at}
 use Rattle.shelf_state.proofs.RuleLaws.{Sizes, obeys-i, quota-shut}
 use Rattle.shelf_state.specs.Records.{blankPlace, blankWatch, emptyShelf, isOf, placeAt, watchAt}

@@ -8,7 +8,7 @@ use mathlib.Core.Logic.{⊎-elim}
 use native.Mathlib.Omega.{arith}
 use lib.ListN.{length}
 use lib.Seq.{paste}
-use Rattle.bytes_at.specs.Choices.{pick}
+use Rattle.logic.specs.Choices.{pick}
 use Rattle.section.specs.declared.header.Header.{Header}
 use Rattle.shelf.proofs.EditLaws.{Edited, edited-facts}
 use Rattle.shelf.proofs.PlaceLaws.{chosen, only, stored-other, stored-same}
@@ -17,7 +17,7 @@ use Rattle.shelf_laws.proofs.AreaLaws.{other-place, paste-there}
 use Rattle.shelf_laws.proofs.ViewLaws.{at-only, kept-none, kept-same}
 use Rattle.shelf_laws.specs.Views.{bytesAt, keptAt}
 use Rattle.shelf_state.proofs.DropLaws.{drop-nobody, place-is, release-other}
-use Rattle.shelf_state.proofs.LoopLaws.{isnt, same-or-not, true-false}
+use Rattle.logic.proofs.LoopLaws.{isnt, same-or-not, true-false}
 use Rattle.shelf_state.proofs.RecordLaws.{holds-i, holds-parts}
 use Rattle.shelf_state.proofs.RuleLaws.{Rules}
 use Rattle.shelf_state.specs.Records.{holds, placeAt, release, takenBy, watchAt}

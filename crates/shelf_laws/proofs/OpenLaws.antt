@@ -15,11 +15,11 @@ use Rattle.shelf.specs.Answers.{After}
 use Rattle.shelf.specs.Calls.{answered, fresh, opened, openedInRange, orRefuse, refusedBy}
 use Rattle.shelf_laws.proofs.ViewLaws.{kept-none, kept-same, same-view, view-at, view-keep, view-none}
 use Rattle.shelf_laws.specs.Views.{freshView, keptAt, view, viewAt}
-use Rattle.shelf_state.proofs.LoopLaws.{any-first, first-has, isnt, none-at, not-e, same-or-not, true-false}
+use Rattle.logic.proofs.LoopLaws.{any-first, first-has, isnt, none-at, not-e, same-or-not, true-false}
 use Rattle.shelf_state.proofs.RecordLaws.{isOf-i, isOf-shut, two-keys}
 use Rattle.shelf_state.proofs.RuleLaws.{Rules, obeys-i, quota-live, quota-shut, rules, shut-holds}
 use Rattle.shelf_state.proofs.WatchLaws.{Fits, at-other, at-same, new-rules, promise-moves}
-use Rattle.shelf_state.specs.Loops.{any}
+use Rattle.logic.specs.Loops.{any}
 use Rattle.shelf_state.specs.Records.{freeRecord, isOf, sameKey, setWatch, watchAt, watched}
 use Rattle.shelf_state.specs.Rules.{inRange, obeys, promised}
 use Rattle.shelf_state.specs.declared.records.Asked.{Asked}

@@ -10,7 +10,7 @@ use lib.Dec.{eqb, leb}
 use lib.ListN.{drop, getD, length, length-drop, take}
 use lib.Seq.{length-take-le, paste, set-getD}
 use borrow.Author.Tests.{le-leb, ltb-true}
-use Rattle.bytes_at.specs.Choices.{pick}
+use Rattle.logic.specs.Choices.{pick}
 use Rattle.refusal.specs.Outcomes.{Outcome, refused, result}
 use Rattle.section.specs.declared.header.Header.{Header}
 use Rattle.shelf.proofs.CallLaws.{never, passed, same-result}
@@ -23,7 +23,7 @@ use Rattle.shelf.specs.Delivery.{areaAfter, byJudge, delivered, delivering, edi
 use Rattle.shelf_laws.proofs.AreaLaws.{paste-after, paste-before, paste-equal, paste-size, paste-there}
 use Rattle.shelf_laws.proofs.ViewLaws.{at-found, kept-held, view-none, view-some}
 use Rattle.shelf_laws.specs.Views.{View, bytesAt, currentOf, heardAs, isEdition, isSome, keptAt, view, viewAt}
-use Rattle.shelf_state.proofs.LoopLaws.{any-first, both, first-has, none-at}
+use Rattle.logic.proofs.LoopLaws.{any-first, both, first-has, none-at}
 use Rattle.shelf_state.proofs.RecordLaws.{holds-parts, isOf-live}
 use Rattle.shelf_state.proofs.RuleLaws.{Rules, rules}
 use Rattle.shelf_state.specs.Records.{blankPlace, dropped, freePlace, holds, isHeld, isOf, placeAt, placeOf, setPlace, setWatch, watchAt, watchOf, watched}

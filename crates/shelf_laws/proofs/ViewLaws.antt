@@ -6,11 +6,11 @@ use mathlib.Core.List.{List}
 use mathlib.Core.Option.{none, some}
 use mathlib.Core.Logic.{⊎-elim}
 use native.Mathlib.Omega.{arith}
-use Rattle.bytes_at.specs.Choices.{pick}
+use Rattle.logic.specs.Choices.{pick}
 use Rattle.shelf_laws.specs.Views.{atFirst, bytesAt, isSome, keptAt, view, viewAt}
-use Rattle.shelf_state.proofs.LoopLaws.{any-none, any-yes, first-at, first-cong, first-split, isnt, true-false}
+use Rattle.logic.proofs.LoopLaws.{any-none, any-yes, first-at, first-cong, first-split, isnt, true-false}
 use Rattle.shelf_state.proofs.RecordLaws.{holds-parts, taken-i}
-use Rattle.shelf_state.specs.Loops.{first}
+use Rattle.logic.specs.Loops.{first}
 use Rattle.shelf_state.specs.Records.{holds, isHeld, isOf, placeAt, placeOf, takenBy, watchAt, watchOf}
 use Rattle.shelf_state.specs.declared.records.Asked.{Asked}
 use Rattle.shelf_state.specs.declared.records.Shelf.{Shelf}

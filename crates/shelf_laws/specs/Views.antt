@@ -1,4 +1,4 @@
--- The view of a watch: its quota, its edition and its kept sections by number. Each call's answer to a key, and what it does to
+-- SCOPE 3.5 and 5: the view of a watch: its quota, its edition and its kept sections by number. Each call's answer to a key, and what it does to
 -- the key's view, is a function of that view.
 use Prim.Native.Nat.{ℕ, _+_, _*_}
 use mathlib.Core.Bool.{Bool, true, false}
@@ -6,10 +6,10 @@ use mathlib.Core.List.{List}
 use mathlib.Core.Option.{Option, some, none}
 use lib.Dec.{leb, eqb}
 use lib.ListN.{take, drop}
-use Rattle.bytes_at.specs.Choices.{pick}
+use Rattle.logic.specs.Choices.{pick}
 use Rattle.refusal.specs.Outcomes.{Outcome, refused, result}
 use Rattle.section.specs.declared.header.Header.{Header}
-use Rattle.shelf_state.specs.Loops.{_&_, any, count, first}
+use Rattle.logic.specs.Loops.{_&_, any, count, first}
 use Rattle.shelf_state.specs.Records.{watchAt, placeAt, isOf, holds}
 use Rattle.shelf_state.specs.declared.records.Asked.{Asked}
 use Rattle.shelf_state.specs.declared.records.Shelf.{Shelf}

@@ -3,8 +3,8 @@ use Prim.Native.Nat.{_<_, _≤_, ℕ}
 use mathlib.Core.Path.{_∙_, _≡_, ap, refl, subst, sym}
 use mathlib.Core.Bool.{Bool, false, true}
 use native.Mathlib.Omega.{arith}
-use Rattle.bytes_at.specs.Choices.{pick}
-use Rattle.shelf_state.proofs.LoopLaws.{each-at, isnt, length-each, true-false}
+use Rattle.logic.specs.Choices.{pick}
+use Rattle.logic.proofs.LoopLaws.{each-at, isnt, length-each, true-false}
 use Rattle.shelf_state.proofs.RecordLaws.{holds-free, holds-parts, taken-parts}
 use Rattle.shelf_state.proofs.RuleLaws.{Owned, Rules}
 use Rattle.shelf_state.specs.Records.{blankPlace, dropped, holds, placeAt, release, takenBy}

@@ -8,11 +8,11 @@ use native.Mathlib.Omega.{arith}
 use lib.ListN.{getD, length, length-set, set}
 use lib.Seq.{getD-set-other, getD-set-same}
 use borrow.Author.Tests.{le-ltb, lt-ltb}
-use Rattle.bytes_at.specs.Choices.{pick}
-use Rattle.shelf_state.proofs.LoopLaws.{all-at, and-i, and-left, and-no-left, and-no-right, and-right, any-more, both, if-i, if-then, isnt, not-e, not-i, true-false}
+use Rattle.logic.specs.Choices.{pick}
+use Rattle.logic.proofs.LoopLaws.{all-at, and-i, and-left, and-no-left, and-no-right, and-right, any-more, both, if-i, if-then, isnt, not-e, not-i, true-false}
 use Rattle.shelf_state.proofs.RecordLaws.{holds-free, holds-i, holds-parts}
 use Rattle.shelf_state.proofs.RuleLaws.{Owned, in-range, owner-facts, watch-facts}
-use Rattle.shelf_state.specs.Loops.{any}
+use Rattle.logic.specs.Loops.{any}
 use Rattle.shelf_state.specs.Records.{holds, placeAt, watchAt}
 use Rattle.shelf_state.specs.Tests.{ownerOk, placeOk, soundUnder, watchOk, watchesOk}
 use Rattle.shelf_state.specs.declared.records.Place.{Place}

@@ -1,5 +1,3 @@
-pub mod LoopLaws
-pub mod CountLaws
 pub mod RecordLaws
 pub mod RuleLaws
 pub mod FlagLaws

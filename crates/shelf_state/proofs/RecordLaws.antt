@@ -5,8 +5,8 @@ use mathlib.Core.Bool.{false, true}
 use mathlib.Core.List.{List}
 use lib.ListN.{getD, replicate}
 use borrow.Author.Tests.{eq-eqb, eqb-true}
-use Rattle.shelf_state.proofs.LoopLaws.{and-i, and-left, and-right, each-more, isnt, true-false}
-use Rattle.shelf_state.specs.Loops.{each}
+use Rattle.logic.proofs.LoopLaws.{and-i, and-left, and-right, each-more, isnt, true-false}
+use Rattle.logic.specs.Loops.{each}
 use Rattle.shelf_state.specs.Records.{asked, blankPlace, dropBelow, holds, isOf, placeAt, release, sameKey, setPlace, takenBy}
 use Rattle.shelf_state.specs.declared.records.Asked.{Asked}
 use Rattle.shelf_state.specs.declared.records.Place.{Place}

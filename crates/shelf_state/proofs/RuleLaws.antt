@@ -7,14 +7,14 @@ use native.Mathlib.Omega.{arith}
 use lib.Dec.{eqb}
 use lib.ListN.{length}
 use borrow.Author.Tests.{eq-eqb, eqb-true, le-leb, leb-true, lt-ltb, ltb-true, not-false}
-use Rattle.bytes_at.specs.Choices.{ifEq, pick}
+use Rattle.logic.specs.Choices.{ifEq, pick}
 use Rattle.kind.specs.Kinds.{kindOf}
 use Rattle.kind.specs.declared.Found.{Found}
 use Rattle.kind.specs.declared.Kind.{Kind}
-use Rattle.shelf_state.proofs.CountLaws.{Sorted, count-by, count-gap, count-none, count-some, numbers, pigeon, pigeon-gap, sum-lt}
-use Rattle.shelf_state.proofs.LoopLaws.{all-at, all-i, and-i, and-left, and-right, any-none, both, first-has, if-i, if-then, isnt, neither-below, none-at, not-e, not-i, same-truth, true-false}
+use Rattle.logic.proofs.CountLaws.{Sorted, count-by, count-gap, count-none, count-some, numbers, pigeon, pigeon-gap, sum-lt}
+use Rattle.logic.proofs.LoopLaws.{all-at, all-i, and-i, and-left, and-right, any-none, both, first-has, if-i, if-then, isnt, neither-below, none-at, not-e, not-i, same-truth, true-false}
 use Rattle.shelf_state.proofs.RecordLaws.{holds-i, holds-parts, isOf-key, isOf-live, taken-i, taken-parts}
-use Rattle.shelf_state.specs.Loops.{any, count}
+use Rattle.logic.specs.Loops.{any, count}
 use Rattle.shelf_state.specs.Records.{asked, freePlace, holds, isHeld, isOf, placeAt, takenBy, watchAt, watchOf}
 use Rattle.shelf_state.specs.Rules.{heldBy, inRange, keysDiffer, keysInRange, lastBelowQuota, lengthsFit, noneAboveQuota, noneTwice, obeys, placesOwned, promised, quotaOf, quotasFit, sizesFit, sizesInRange, unheardEmpty, watchable}
 use Rattle.shelf_state.specs.Tests.{keyIsNew, lastOk, ownerOk, placeOk, soundUnder, tested, watchOk, watchSound}

@@ -6,8 +6,8 @@ use mathlib.Core.Logic.{⊎-elim}
 use native.Mathlib.Omega.{arith}
 use lib.ListN.{length-set}
 use lib.Seq.{getD-set-other, getD-set-same}
-use Rattle.shelf_state.proofs.CountLaws.{sum-at}
-use Rattle.shelf_state.proofs.LoopLaws.{isnt, same-or-not, true-false}
+use Rattle.logic.proofs.CountLaws.{sum-at}
+use Rattle.logic.proofs.LoopLaws.{isnt, same-or-not, true-false}
 use Rattle.shelf_state.proofs.RecordLaws.{isOf-i, isOf-key, isOf-live, taken-i}
 use Rattle.shelf_state.proofs.RuleLaws.{Owned, Rules}
 use Rattle.shelf_state.specs.Records.{asked, blankWatch, isOf, placeAt, setWatch, takenBy, watchAt}

@@ -1,4 +1,3 @@
-pub mod Loops
 pub mod Records
 pub mod Rules
 pub mod Tests

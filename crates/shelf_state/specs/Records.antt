@@ -1,10 +1,10 @@
--- Document 01, "The shelf": what the records of the shelf mean.
+-- SCOPE 5.2: what the records of the shelf mean.
 use Prim.Native.Nat.{ℕ}
 use mathlib.Core.Bool.{Bool, false, not}
 use lib.ListN.{getD, set, replicate}
 use lib.Dec.{eqb}
-use Rattle.bytes_at.specs.Choices.{pick}
-use Rattle.shelf_state.specs.Loops.{_&_, any, first, each}
+use Rattle.logic.specs.Choices.{pick}
+use Rattle.logic.specs.Loops.{_&_, any, first, each}
 use Rattle.shelf_state.specs.declared.records.Key.{Key}
 use Rattle.shelf_state.specs.declared.records.Asked.{Asked}
 use Rattle.shelf_state.specs.declared.records.Watch.{Watch}

@@ -1,14 +1,14 @@
--- Document 01, "Rules of the shelf": a definition a rule, in the document's order, and the sizes. Only open records and taken
+-- SCOPE 5.3: a definition a rule, in the order given there, and the sizes of SCOPE 5.1. Only open records and taken
 -- places, within the sizes in use, are judged.
 use Prim.Native.Nat.{ℕ, _*_}
 use mathlib.Core.Bool.{Bool, false, not}
 use lib.ListN.{length}
 use lib.Dec.{ltb, leb, eqb}
-use Rattle.bytes_at.specs.Choices.{pick}
+use Rattle.logic.specs.Choices.{pick}
 use Rattle.kind.specs.declared.Found.{Found}
 use Rattle.kind.specs.declared.Found.the-variants.{Is, Nothing}
 use Rattle.kind.specs.Kinds.{kindOf, limitsOf}
-use Rattle.shelf_state.specs.Loops.{_&_, _⇒_, all, any, sum, count}
+use Rattle.logic.specs.Loops.{_&_, _⇒_, all, any, sum, count}
 use Rattle.shelf_state.specs.Records.{asked, watchAt, placeAt, isOf, takenBy, holds}
 use Rattle.shelf_state.specs.declared.records.Asked.{Asked}
 use Rattle.shelf_state.specs.declared.records.Watch.{Watch}

@@ -2,7 +2,7 @@
 use Prim.Native.Nat.{ℕ, _+_}
 use mathlib.Core.Bool.{Bool, not}
 use lib.Dec.{ltb, leb}
-use Rattle.shelf_state.specs.Loops.{_&_, _⇒_, all, any}
+use Rattle.logic.specs.Loops.{_&_, _⇒_, all, any}
 use Rattle.shelf_state.specs.Records.{asked, watchAt, placeAt, isOf, holds}
 use Rattle.shelf_state.specs.Rules.{inRange, promised, sizesFit}
 use Rattle.shelf_state.specs.declared.records.Watch.{Watch}

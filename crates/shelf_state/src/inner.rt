@@ -10,7 +10,7 @@ use crate::records::taken_by;
 pub use crate::records::wide;
 ghost use mathlib.Core.Path.{_≡_};
 ghost use Prim.Native.Nat.{_≤_, _<_};
-ghost use Rattle.shelf_state.specs.Loops.{count};
+ghost use Rattle.logic.specs.Loops.{count};
 ghost use Rattle.shelf_state.specs.Records.{blankWatch, blankPlace, placeAt, findWatch, freeRecord, placeOf, freePlace, takenBy, setWatch, release, dropped, emptyShelf};
 ghost use Rattle.shelf_state.specs.Rules.{quotaOf, heldBy};
 ghost use Rattle.shelf_state.specs.Tests.{roomFor};

@@ -8,7 +8,7 @@ use lib.Dec.{eqb, ltb}
 use lib.ListN.{length, take, drop, length-take, length-append}
 use Rattle.bytes_at.specs.declared.Walk.{Walk}
 use Rattle.bytes_at.specs.declared.Walk.the-variants.{To, Bad}
-use Rattle.bytes_at.specs.Choices.{ifEq, ifLt, pick}
+use Rattle.logic.specs.Choices.{ifEq, ifLt, pick}
 use Rattle.bytes_at.specs.Fields.{byteAt}
 use Rattle.bytes_at.specs.Walks.{fieldsTo, then, many}
 use Rattle.bytes_at.proofs.WalkLaws.{to-is, then-inv, skipped}

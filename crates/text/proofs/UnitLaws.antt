@@ -7,7 +7,7 @@ use native.Mathlib.Omega.{arith}
 use lib.ListN.{length, getD, take, drop, length-take}
 use lib.Seq.{sets, take-all}
 use Rattle.bytes_at.specs.Fields.{byteAt}
-use Rattle.bytes_at.proofs.ChoiceLaws.{eq-yes, eq-no}
+use Rattle.logic.proofs.ChoiceLaws.{eq-yes, eq-no}
 use Rattle.refusal.specs.Numbers.{numberOf}
 use Rattle.refusal.specs.Outcomes.{Outcome, refused, result}
 use Rattle.refusal.specs.declared.Refusal.{Refusal}

@@ -6,7 +6,7 @@ use bytes_at::byte;
 use part::part_of;
 use refusal::Refusal;
 use segment::Judged;
-use segment::inner::put;
+use segment::inner::put_unit;
 ghost use mathlib.Core.Path.{_≡_};
 ghost use Prim.Native.Nat.{_+_, _*_, _^_, _<_, _≤_};
 ghost use lib.ListN.{length, getD, take};
@@ -78,7 +78,7 @@ fn store(s: &[u8], wide: bool, k: usize, out: &mut [u16], n: usize)
 {
     let mut i = 0;
     while i < k {
-        put(out, n, i, unit_at(s, wide, i));
+        put_unit(out, n, i, unit_at(s, wide, i));
         i += 1;
     }
 }

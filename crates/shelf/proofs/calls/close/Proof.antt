@@ -4,7 +4,7 @@ use mathlib.Core.Path.{_∙_, ap, refl, sym}
 use native.Mathlib.Omega.{arith}
 use borrow.Author.Tests.{not-false, not-true}
 use borrow.Author.Needs.{needs}
-use Rattle.shelf_state.proofs.LoopLaws.{any-no, any-yes}
+use Rattle.logic.proofs.LoopLaws.{any-no, any-yes}
 use Rattle.shelf_state.proofs.RuleLaws.{rules-of}
 use Rattle.shelf_state.specs.Records.{blankWatch, dropped, setWatch}
 use Rattle.shelf.proofs.CallLaws.{go-on, stop}

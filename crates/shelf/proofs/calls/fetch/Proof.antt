@@ -3,7 +3,7 @@ use Prim.Native.Nat.{ℕ}
 use mathlib.Core.Path.{_∙_, ap, refl, sym}
 use borrow.Author.Tests.{not-false, not-true}
 use borrow.Author.Needs.{needs}
-use Rattle.shelf_state.proofs.LoopLaws.{any-no, any-yes}
+use Rattle.logic.proofs.LoopLaws.{any-no, any-yes}
 use Rattle.shelf_state.proofs.RuleLaws.{rules-of}
 use Rattle.shelf.proofs.CallLaws.{go-on, stop}
 use Rattle.shelf.specs.Calls.{fetched, fetchedFrom}

@@ -2,7 +2,7 @@
 use Prim.Native.Nat.{_*_, ℕ}
 use mathlib.Core.Path.{_∙_, ap, ap₂, refl}
 use borrow.Author.Needs.{needs}
-use Rattle.shelf_state.proofs.LoopLaws.{any-no, any-yes}
+use Rattle.logic.proofs.LoopLaws.{any-no, any-yes}
 use Rattle.shelf_state.specs.Records.{placeAt}
 use Rattle.shelf.proofs.CallLaws.{go-on, stop}
 use Rattle.shelf.specs.Calls.{answered, fetchedFrom}

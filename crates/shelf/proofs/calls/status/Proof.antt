@@ -5,7 +5,7 @@ use native.Mathlib.Omega.{arith}
 use borrow.Author.Tests.{not-false, not-true}
 use borrow.Author.Needs.{needs}
 use Rattle.refusal.specs.Outcomes.{Outcome, result}
-use Rattle.shelf_state.proofs.LoopLaws.{any-no, any-yes}
+use Rattle.logic.proofs.LoopLaws.{any-no, any-yes}
 use Rattle.shelf_state.proofs.RuleLaws.{held-numbers, rules-of}
 use Rattle.shelf.proofs.CallLaws.{go-on, stop}
 use Rattle.shelf.specs.Answers.{Status}

@@ -15,11 +15,11 @@ enum-known-answer c = search needs
 enum-known-answer-2 : tie.Need-enum-known-answer-2
 enum-known-answer-2 c = search needs
 
-mul-put : tie.Need-mul-put
-mul-put c = let f = place-fits _ _ _ _ _ _ (c .before .before .before .before .before .before .before .before .pre .0) (c .before .before .before .before .before .before .before .before .pre .1) (outcome-at _ _ (c .before .before .before .before .before .take .ensures) _ (c .before .before .answer2 .given .1)) in omega (arith, f .0)
+mul-store : tie.Need-mul-store
+mul-store c = let f = place-fits _ _ _ _ _ _ (c .before .before .before .before .before .before .before .before .pre .0) (c .before .before .before .before .before .before .before .before .pre .1) (outcome-at _ _ (c .before .before .before .before .before .take .ensures) _ (c .before .before .answer2 .given .1)) in omega (arith, f .0)
 
-put-requires : tie.Need-put-requires
-put-requires c κs = place-fits _ _ _ _ _ _ (c .before .before .before .before .before .before .before .before .pre .0) (c .before .before .before .before .before .before .before .before .pre .1) (outcome-at _ _ (c .before .before .before .before .before .take .ensures) _ (c .before .before .answer2 .given .1)) .1
+store-requires : tie.Need-store-requires
+store-requires c κs = place-fits _ _ _ _ _ _ (c .before .before .before .before .before .before .before .before .pre .0) (c .before .before .before .before .before .before .before .before .pre .1) (outcome-at _ _ (c .before .before .before .before .before .take .ensures) _ (c .before .before .answer2 .given .1)) .1
 
 returns : tie.Need-returns
 returns c = (quiet-refused _ _ (c .before .before .before .before .take .ensures) _ (c .before .answer .given .1), area-refused _ _ _ _ (outcome-refused _ _ (c .before .before .before .before .take .ensures) _ (c .before .answer .given .1)))
@@ -28,7 +28,7 @@ same-length : tie.Need-same-length
 same-length c = search needs
 
 returns-2 : tie.Need-returns-2
-returns-2 c = (quiet-at _ _ (c .before .before .before .before .before .before .before .before .take .ensures) _ (c .before .before .before .before .before .answer2 .given .1), c .before .before .put .ensures ∙ area-at _ _ _ _ (outcome-at _ _ (c .before .before .before .before .before .before .before .before .take .ensures) _ (c .before .before .before .before .before .answer2 .given .1)))
+returns-2 c = (quiet-at _ _ (c .before .before .before .before .before .before .before .before .take .ensures) _ (c .before .before .before .before .before .answer2 .given .1), c .before .before .store .ensures ∙ area-at _ _ _ _ (outcome-at _ _ (c .before .before .before .before .before .before .before .before .take .ensures) _ (c .before .before .before .before .before .answer2 .given .1)))
 
 pub keep-spec : {M : Type 1} → statement M
 keep-spec =
@@ -37,8 +37,8 @@ keep-spec =
     take-requires
     enum-known-answer
     enum-known-answer-2
-    mul-put
-    put-requires
+    mul-store
+    store-requires
     returns
     same-length
     returns-2)

@@ -1,6 +1,6 @@
 -- `place_for` meets its contract.
 use borrow.Author.Needs.{needs}
-use Rattle.shelf_state.proofs.LoopLaws.{any-no, any-yes}
+use Rattle.logic.proofs.LoopLaws.{any-no, any-yes}
 use Rattle.shelf.specs.Delivery.{placeFor}
 use Rattle.shelf.proofs.delivery.place_for.Statement.{statement}
 use Rattle.shelf.proofs.delivery.place_for.Tie as tie

@@ -3,7 +3,7 @@ use Prim.Native.Nat.{ℕ}
 use mathlib.Core.Path.{_∙_, ap, refl}
 use mathlib.Core.Bool.{not}
 use borrow.Author.Tests.{eq-eqb, ne-eqb}
-use Rattle.shelf_state.proofs.LoopLaws.{any-no, any-yes}
+use Rattle.logic.proofs.LoopLaws.{any-no, any-yes}
 use Rattle.shelf_state.proofs.RuleLaws.{rules}
 use Rattle.shelf.proofs.CallLaws.{go-on, stop}
 use Rattle.shelf.proofs.TakingLaws.{ready-of}

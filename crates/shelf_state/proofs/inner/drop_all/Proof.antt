@@ -2,7 +2,7 @@
 use Prim.Native.Nat.{_-_, _≤_}
 use mathlib.Core.Path.{_≡_}
 use borrow.Author.Needs.{needs}
-use Rattle.shelf_state.proofs.LoopLaws.{at-end}
+use Rattle.logic.proofs.LoopLaws.{at-end}
 use Rattle.shelf_state.proofs.RecordLaws.{drop-none, drop-step}
 use Rattle.shelf_state.specs.Records.{dropBelow}
 use Rattle.shelf_state.proofs.inner.drop_all.Statement.{statement}

@@ -5,7 +5,7 @@ use mathlib.Core.Bool.{false, not}
 use native.Mathlib.Omega.{arith}
 use borrow.Author.Count.{below-more, below-none}
 use borrow.Author.Needs.{needs}
-use Rattle.shelf_state.proofs.LoopLaws.{first-at, first-none}
+use Rattle.logic.proofs.LoopLaws.{first-at, first-none}
 use Rattle.shelf_state.specs.Records.{placeAt}
 use Rattle.shelf_state.proofs.inner.free_place.Statement.{statement}
 use Rattle.shelf_state.proofs.inner.free_place.Tie as tie

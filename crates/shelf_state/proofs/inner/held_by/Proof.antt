@@ -4,8 +4,8 @@ use mathlib.Core.Path.{_∙_, _≡_, ap, sym}
 use mathlib.Core.Logic.{⊎-elim}
 use native.Mathlib.Omega.{arith}
 use borrow.Author.Needs.{needs}
-use Rattle.shelf_state.proofs.LoopLaws.{at-end, sum-more, sum-none}
-use Rattle.shelf_state.specs.Loops.{count, one}
+use Rattle.logic.proofs.LoopLaws.{at-end, sum-more, sum-none}
+use Rattle.logic.specs.Loops.{count, one}
 use Rattle.shelf_state.specs.Records.{placeAt, takenBy}
 use Rattle.shelf_state.proofs.inner.held_by.Statement.{statement}
 use Rattle.shelf_state.proofs.inner.held_by.Tie as tie

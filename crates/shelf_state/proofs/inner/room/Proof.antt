@@ -3,7 +3,7 @@ use Prim.Native.Nat.{_+_, _-_, _≤_, ℕ}
 use mathlib.Core.Path.{_≡_}
 use native.Mathlib.Omega.{arith}
 use borrow.Author.Needs.{needs}
-use Rattle.shelf_state.proofs.LoopLaws.{is-leb, no-leb, sum-grows, sum-more, sum-none}
+use Rattle.logic.proofs.LoopLaws.{is-leb, no-leb, sum-grows, sum-more, sum-none}
 use Rattle.shelf_state.specs.Records.{watchAt}
 use Rattle.shelf_state.specs.Rules.{promised, promisedBelow, quotaOf}
 use Rattle.shelf_state.proofs.inner.room.Statement.{statement}

@@ -1,7 +1,7 @@
 -- `holds_section` meets its contract.
 use mathlib.Core.Path.{_∙_, sym}
 use borrow.Author.Needs.{needs}
-use Rattle.shelf_state.specs.Loops.{_&_}
+use Rattle.logic.specs.Loops.{_&_}
 use Rattle.shelf_state.specs.Records.{holds, takenBy}
 use Rattle.shelf_state.proofs.records.holds_section.Statement.{statement}
 use Rattle.shelf_state.proofs.records.holds_section.Tie as tie

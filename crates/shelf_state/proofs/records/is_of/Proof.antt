@@ -1,6 +1,6 @@
 -- `is_of` meets its contract.
 use borrow.Author.Needs.{needs}
-use Rattle.shelf_state.specs.Loops.{_&_}
+use Rattle.logic.specs.Loops.{_&_}
 use Rattle.shelf_state.specs.Records.{isOf}
 use Rattle.shelf_state.proofs.records.is_of.Statement.{statement}
 use Rattle.shelf_state.proofs.records.is_of.Tie as tie

@@ -1,7 +1,7 @@
 -- `same_key` meets its contract: the fields one by one.
 use borrow.Author.Tests.{eq-eqb, ne-eqb}
 use borrow.Author.Needs.{needs}
-use Rattle.shelf_state.specs.Loops.{_&_}
+use Rattle.logic.specs.Loops.{_&_}
 use Rattle.shelf_state.specs.Records.{sameKey}
 use Rattle.shelf_state.proofs.records.same_key.Statement.{statement}
 use Rattle.shelf_state.proofs.records.same_key.Tie as tie

@@ -1,6 +1,6 @@
 -- `taken_by` meets its contract.
 use borrow.Author.Needs.{needs}
-use Rattle.shelf_state.specs.Loops.{_&_}
+use Rattle.logic.specs.Loops.{_&_}
 use Rattle.shelf_state.specs.Records.{takenBy}
 use Rattle.shelf_state.proofs.records.taken_by.Statement.{statement}
 use Rattle.shelf_state.proofs.records.taken_by.Tie as tie

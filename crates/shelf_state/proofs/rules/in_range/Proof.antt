@@ -2,7 +2,7 @@
 use mathlib.Core.Path.{_∙_, sym}
 use borrow.Author.Tests.{le-leb, lt-leb, not-false, not-true}
 use borrow.Author.Needs.{needs}
-use Rattle.shelf_state.specs.Loops.{_&_}
+use Rattle.logic.specs.Loops.{_&_}
 use Rattle.shelf_state.specs.Rules.{inRange}
 use Rattle.shelf_state.proofs.rules.in_range.Statement.{statement}
 use Rattle.shelf_state.proofs.rules.in_range.Tie as tie

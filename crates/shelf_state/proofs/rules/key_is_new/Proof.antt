@@ -1,7 +1,7 @@
 -- `key_is_new` meets its contract: the first watch with the key is not below i.
 use borrow.Author.Needs.{needs}
-use Rattle.shelf_state.proofs.LoopLaws.{not-any-first}
-use Rattle.shelf_state.specs.Loops.{_⇒_}
+use Rattle.logic.proofs.LoopLaws.{not-any-first}
+use Rattle.logic.specs.Loops.{_⇒_}
 use Rattle.shelf_state.specs.Tests.{keyIsNew}
 use Rattle.shelf_state.proofs.rules.key_is_new.Statement.{statement}
 use Rattle.shelf_state.proofs.rules.key_is_new.Tie as tie

@@ -1,5 +1,5 @@
 -- `last_ok` meets its contract.
-use Rattle.shelf_state.specs.Loops.{_⇒_}
+use Rattle.logic.specs.Loops.{_⇒_}
 use Rattle.shelf_state.specs.Tests.{lastOk}
 use Rattle.shelf_state.proofs.rules.last_ok.Statement.{statement}
 use Rattle.shelf_state.proofs.rules.last_ok.Tie as tie

@@ -2,7 +2,7 @@
 use mathlib.Core.Path.{_∙_, sym}
 use borrow.Author.Needs.{needs}
 use Rattle.shelf_state.proofs.RuleLaws.{sizes, tested-rules}
-use Rattle.shelf_state.specs.Loops.{_&_}
+use Rattle.logic.specs.Loops.{_&_}
 use Rattle.shelf_state.specs.Tests.{tested}
 use Rattle.shelf_state.proofs.rules.obeys_rules.Statement.{statement}
 use Rattle.shelf_state.proofs.rules.obeys_rules.Tie as tie

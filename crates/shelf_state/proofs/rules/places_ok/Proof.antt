@@ -8,7 +8,7 @@ use borrow.Author.Tests.{not-false, not-true}
 use borrow.Author.Count.{below-more, below-none}
 use borrow.Author.Needs.{needs}
 use Rattle.shelf_state.proofs.FlagLaws.{Seen, flag-is, flag-small, owner-no, owner-past, owner-yes, place-free, place-owner, place-sound, place-twice, seen-free, seen-more, seen-none}
-use Rattle.shelf_state.proofs.LoopLaws.{all-fails, all-met}
+use Rattle.logic.proofs.LoopLaws.{all-fails, all-met}
 use Rattle.shelf_state.specs.Tests.{placeOk}
 use Rattle.shelf_state.proofs.rules.places_ok.Statement.{statement}
 use Rattle.shelf_state.proofs.rules.places_ok.Tie as tie

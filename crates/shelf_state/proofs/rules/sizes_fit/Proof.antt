@@ -4,7 +4,7 @@ use native.Mathlib.Omega.{arith}
 use borrow.Author.Tests.{eq-eqb}
 use borrow.Author.Needs.{needs}
 use Rattle.shelf_state.proofs.RuleLaws.{in-sizes}
-use Rattle.shelf_state.specs.Loops.{_&_}
+use Rattle.logic.specs.Loops.{_&_}
 use Rattle.shelf_state.specs.Rules.{sizesFit}
 use Rattle.shelf_state.proofs.rules.sizes_fit.Statement.{statement}
 use Rattle.shelf_state.proofs.rules.sizes_fit.Tie as tie

@@ -1,6 +1,6 @@
 -- `sizes_in_range` meets its contract.
 use borrow.Author.Tests.{le-leb, lt-leb}
-use Rattle.shelf_state.specs.Loops.{_&_}
+use Rattle.logic.specs.Loops.{_&_}
 use Rattle.shelf_state.specs.Rules.{sizesInRange}
 use Rattle.shelf_state.proofs.rules.sizes_in_range.Statement.{statement}
 use Rattle.shelf_state.proofs.rules.sizes_in_range.Tie as tie

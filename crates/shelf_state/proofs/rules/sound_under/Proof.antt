@@ -1,6 +1,6 @@
 -- `sound_under` meets its contract.
 use borrow.Author.Tests.{le-leb, lt-leb}
-use Rattle.shelf_state.specs.Loops.{_&_}
+use Rattle.logic.specs.Loops.{_&_}
 use Rattle.shelf_state.specs.Tests.{soundUnder}
 use Rattle.shelf_state.proofs.rules.sound_under.Statement.{statement}
 use Rattle.shelf_state.proofs.rules.sound_under.Tie as tie

@@ -1,7 +1,7 @@
 -- `watch_sound` meets its contract.
 use mathlib.Core.Path.{_∙_, sym}
 use borrow.Author.Needs.{needs}
-use Rattle.shelf_state.specs.Loops.{_&_, _⇒_}
+use Rattle.logic.specs.Loops.{_&_, _⇒_}
 use Rattle.shelf_state.specs.Tests.{watchSound}
 use Rattle.shelf_state.proofs.rules.watch_sound.Statement.{statement}
 use Rattle.shelf_state.proofs.rules.watch_sound.Tie as tie

@@ -5,7 +5,7 @@ use mathlib.Core.Bool.{true}
 use borrow.Author.Tests.{not-false, not-true}
 use borrow.Author.Count.{below-more, below-none}
 use borrow.Author.Needs.{needs}
-use Rattle.shelf_state.proofs.LoopLaws.{all-fails, all-met, and-i, and-no-left, and-no-right}
+use Rattle.logic.proofs.LoopLaws.{all-fails, all-met, and-i, and-no-left, and-no-right}
 use Rattle.shelf_state.specs.Tests.{watchOk}
 use Rattle.shelf_state.proofs.rules.watches_ok.Statement.{statement}
 use Rattle.shelf_state.proofs.rules.watches_ok.Tie as tie

@@ -32,7 +32,7 @@ part-of-requires c κs = search needs
 one-segment-requires : tie.Need-one-segment-requires
 one-segment-requires c κs = let b = c .before .before in
     let a = b .before .before .before .before .before .before .before .before .args in
-    (b .before .before .before .before .before .before .before .before .pre .0, few-bytes (a .s .now) _ (a .at + 3) (b .byte3 .result) (c .before .part-of .ensures) (b .byte3 .ensures .1))
+    (b .before .before .before .before .before .before .before .before .pre .0, few-bytes (a .s .now) _ (a .at + 3) (b .byte3 .result) (c .before .part-of .ensures) (b .byte3 .ensures .1 .0))
 
 same-length : tie.Need-same-length
 same-length c = search needs

@@ -1,4 +1,4 @@
--- `put` meets its contract: the bytes so far are pasted.
+-- `store` meets its contract: the bytes so far are pasted.
 use Prim.Native.Nat.{_+_, _-_, _≤_, ℕ}
 use mathlib.Core.Path.{_∙_, _≡_, ap, sym}
 use mathlib.Core.List.{List}
@@ -7,9 +7,9 @@ use native.Mathlib.Omega.{arith}
 use lib.ListN.{getD, length, set}
 use lib.Seq.{length-paste, paste, paste-suc, paste-zero}
 use borrow.Author.Needs.{needs}
-use Rattle.shelf_state.proofs.LoopLaws.{at-end}
-use Rattle.shelf.proofs.delivery.put.Statement.{statement}
-use Rattle.shelf.proofs.delivery.put.Tie as tie
+use Rattle.logic.proofs.LoopLaws.{at-end}
+use Rattle.shelf.proofs.delivery.store.Statement.{statement}
+use Rattle.shelf.proofs.delivery.store.Tie as tie
 
 abbrev Inv-loop : tie.InvT-loop
 Inv-loop area₀ at bytes i₀ area i = (i ≤ length bytes) × (area ≡ paste area₀ at bytes i)
@@ -60,8 +60,8 @@ same-length c = let g = c .before .before .args in
 returns : tie.Need-returns Inv-loop μ-loop
 returns c = let g = c .before .before .args in at-end (paste (g .area .now) (g .at) (g .bytes .now)) (c .before .loop .inv .0) (c .loop-test .left) (c .before .loop .inv .1)
 
-pub put-spec : {M : Type 1} → statement M
-put-spec =
+pub store-spec : {M : Type 1} → statement M
+store-spec =
     tie.close
     (tie.spec
     Inv-loop
