@@ -9,7 +9,7 @@
 #include "clock.h"
 #include "stack.h"
 
-uint32_t measured_register(const uint8_t *s, size_t n);
+uint32_t bench_register(const uint8_t *s, size_t n);
 
 typedef uint32_t (*Register)(const uint8_t *s, size_t n);
 
@@ -66,7 +66,7 @@ static void time_both(size_t n) {
         double t = timed(c_register, n, &c_sum);
         if (t < c)
             c = t;
-        t = timed(measured_register, n, &our_sum);
+        t = timed(bench_register, n, &our_sum);
         if (t < ours)
             ours = t;
         same(c_sum, our_sum, n);
@@ -76,13 +76,13 @@ static void time_both(size_t n) {
 
 static volatile uint32_t result;
 
-static void on_the_stack(void) { result = measured_register(bytes, LONGEST); }
+static void on_the_stack(void) { result = bench_register(bytes, LONGEST); }
 
 int main(void) {
     static const size_t sizes[] = {16, 64, 100, 255, 256, 512, 1024, 4092, 4096};
     fill();
     for (size_t n = 0; n <= LONGEST; n++)
-        same(c_register(bytes + n % STARTS, n), measured_register(bytes + n % STARTS, n), n);
+        same(c_register(bytes + n % STARTS, n), bench_register(bytes + n % STARTS, n), n);
     printf(" bytes       C ns    ours ns  C/ours\n");
     for (size_t k = 0; k < sizeof sizes / sizeof *sizes; k++)
         time_both(sizes[k]);

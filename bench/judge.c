@@ -10,8 +10,8 @@
 #include "sections.h"
 #include "stack.h"
 
-uint32_t measured_register(const uint8_t *s, size_t n);
-uint8_t measured_judge(const uint8_t *s, size_t n);
+uint32_t bench_register(const uint8_t *s, size_t n);
+uint8_t bench_judge(const uint8_t *s, size_t n);
 
 enum { ROUNDS = 9, CALLS = 400 };
 
@@ -47,7 +47,7 @@ static void titled_events(Section *s) {
 }
 
 static void accepted(const Section *s) {
-    unsigned k = measured_judge(s->bytes, s->n);
+    unsigned k = bench_judge(s->bytes, s->n);
     if (k) {
         printf("FAILED judge: %s refused %u\n", s->name, k);
         exit(1);
@@ -60,13 +60,13 @@ static void time_one(const Section *s, long taken) {
     for (int k = 0; k < ROUNDS; k++) {
         double began = seconds();
         for (int i = 0; i < CALLS; i++)
-            sink += measured_register(s->bytes, s->n);
+            sink += bench_register(s->bytes, s->n);
         double t = (seconds() - began) * 1e9 / CALLS;
         if (t < sum)
             sum = t;
         began = seconds();
         for (int i = 0; i < CALLS; i++)
-            sink += measured_judge(s->bytes, s->n);
+            sink += bench_judge(s->bytes, s->n);
         t = (seconds() - began) * 1e9 / CALLS;
         if (t < judge)
             judge = t;

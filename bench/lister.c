@@ -14,7 +14,7 @@
 
 #include "clock.h"
 
-uint32_t measured_register(const uint8_t *s, size_t n);
+uint32_t bench_register(const uint8_t *s, size_t n);
 
 enum { ROUNDS = 5, HEAD = 4 };
 
@@ -52,7 +52,7 @@ static double summed(const uint8_t *s, size_t n, size_t *size) {
     uint32_t wrong = 0;
     for (size_t at = 0; at < n;) {
         size_t length = 3 + ((s[at + 5] & 0x0Fu) << 8 | s[at + 6]);
-        wrong |= measured_register(s + at + HEAD, length);
+        wrong |= bench_register(s + at + HEAD, length);
         all += length;
         at += HEAD + length;
     }

@@ -3,10 +3,10 @@
 set -e
 [ "$(uname -m)" = x86_64 ] || { echo "FAILED lister: the programs are for x86-64, and a time in an emulator says nothing"; exit 1; }
 mkdir -p target/bench
-rt staticlib measured >target/bench/build.log 2>&1 || { cat target/bench/build.log; exit 1; }
+rt staticlib bench_calls >target/bench/build.log 2>&1 || { cat target/bench/build.log; exit 1; }
 rt check lister >target/bench/build.log 2>&1 || { cat target/bench/build.log; exit 1; }
 python3 bench/lister.py target/bench
-gcc -std=gnu11 -O3 -Wall -Wextra -o target/bench/lister bench/lister.c target/staticlib/libmeasured.a
+gcc -std=gnu11 -O3 -Wall -Wextra -o target/bench/lister bench/lister.c target/staticlib/libbench_calls.a
 sorts="titled compressed lists small mixed"
 streams=
 for sort in $sorts; do

@@ -10,10 +10,10 @@
 #include "sections.h"
 #include "stack.h"
 
-uint8_t measured_judge(const uint8_t *s, size_t n);
-uint64_t measured_statuses(uint8_t *area, size_t size, size_t watches, size_t quota, const uint8_t *first, size_t n,
+uint8_t bench_judge(const uint8_t *s, size_t n);
+uint64_t bench_statuses(uint8_t *area, size_t size, size_t watches, size_t quota, const uint8_t *first, size_t n,
                            size_t rounds);
-uint64_t measured_deliveries(uint8_t *area, size_t size, size_t watches, size_t quota, const uint8_t *first, size_t n,
+uint64_t bench_deliveries(uint8_t *area, size_t size, size_t watches, size_t quota, const uint8_t *first, size_t n,
                              const uint8_t *then, size_t m, size_t rounds);
 
 enum { ROUNDS = 9, CALLS = 16384, PLACE = 4096, PLACES = 64, WATCHES = 16 };
@@ -61,8 +61,8 @@ typedef struct {
 static uint64_t done(const Work *w, size_t rounds) {
     size_t size = w->places * PLACE, quota = w->places / w->watches;
     if (!w->then)
-        return measured_statuses(area, size, w->watches, quota, w->first->bytes, w->first->n, rounds);
-    return measured_deliveries(area, size, w->watches, quota, w->first->bytes, w->first->n, w->then->bytes, w->then->n, rounds);
+        return bench_statuses(area, size, w->watches, quota, w->first->bytes, w->first->n, rounds);
+    return bench_deliveries(area, size, w->watches, quota, w->first->bytes, w->first->n, w->then->bytes, w->then->n, rounds);
 }
 
 static double best_of(const Work *w, size_t rounds) {
@@ -112,7 +112,7 @@ static double judge_ns(const Section *s) {
         unsigned refused = 0;
         double began = seconds();
         for (int i = 0; i < CALLS; i++)
-            refused += measured_judge(s->bytes, s->n) != 0;
+            refused += bench_judge(s->bytes, s->n) != 0;
         double t = (seconds() - began) * 1e9 / CALLS;
         if (refused) {
             printf("FAILED shelf: %s refused\n", s->name);

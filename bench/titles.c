@@ -10,7 +10,7 @@
 #include "stack.h"
 #include "table.h"
 
-size_t measured_titles(const uint8_t *s, size_t n, uint16_t *out, size_t room);
+size_t bench_titles(const uint8_t *s, size_t n, uint16_t *out, size_t room);
 
 enum { ROUNDS = 9, TITLES = 10000, ROOM = 2040 };
 
@@ -74,7 +74,7 @@ static double timed(size_t (*f)(const uint8_t *, size_t, uint16_t *, size_t)) {
     return best;
 }
 
-static void on_the_stack(void) { measured_titles(bytes, size, room, ROOM); }
+static void on_the_stack(void) { bench_titles(bytes, size, room, ROOM); }
 
 int main(int argc, char **argv) {
     FILE *f = argc == 2 ? fopen(argv[1], "rb") : NULL;
@@ -82,7 +82,7 @@ int main(int argc, char **argv) {
         return 1;
     size = fread(bytes, 1, sizeof bytes, f);
     fclose(f);
-    double c = timed(c_titles), ours = timed(measured_titles);
+    double c = timed(c_titles), ours = timed(bench_titles);
     printf("%d titles, %zu bytes: C %.0f us, ours %.0f us, ours / C %.2f\n", TITLES, size, c * 1e6, ours * 1e6, ours / c);
     printf("stack: %ld bytes\n", stack_of(on_the_stack, STACK));
     return 0;

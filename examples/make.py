@@ -23,7 +23,7 @@ def whole(table_id, fields, **words):
     return section(table_id, joined(fields), **words)
 
 
-# ---- two_eits: the document's example; its output is written out, so that it hangs on no program
+# ---- two_eits: the example of SCOPE 8.2; its output is written out, so that it hangs on no program
 TWO_EITS = b"".join(record(EVENTS, s) for s in (
     whole(EIT, eit([event(made([plain(b"Tea")]), event_id=5, start=1000, length=1800)]), extension=7, version=3),
     whole(EIT, eit([]), extension=8, version=3),

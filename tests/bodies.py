@@ -1,4 +1,4 @@
-"""Test 9, the body of a section, written from the document's rules and from nothing of the library.
+"""Test 9, the body of a section, written from SCOPE 2 and 4.1 and from nothing of the library.
 
 The offset of a failure counts from the section's first byte and is that of the field that fails: a
 field cut short, a length that promises too much, the first byte left over, an RRT count of 0.

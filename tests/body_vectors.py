@@ -1,7 +1,7 @@
 #!/usr/bin/env python3
 """Vectors for test 9, the bodies of sections, with the answers that the rules give.
 
-Run by itself it says how many vectors there are of each sort; section_vectors.py writes them out.
+Run by itself it says how many vectors there are of each sort; test_judging.py writes them out.
 Each vector but the random ones says which answer it is meant to have, the offset of a failure by
 where the fault was put, and the rules, written out in bodies.py, must agree.
 """

@@ -25,14 +25,9 @@ listed_as() { # EXAMPLE
     timeout 10 sh tools/run.sh target/bin/lister < "$1.bin" | diff "$1.txt" -
 }
 
-compare section_vectors python3 tests/section_vectors.py --check
-compare segment_vectors python3 tests/segment_vectors.py --check
-compare table_vectors python3 tests/table_vectors.py --check
-compare rating_vectors python3 tests/rating_vectors.py --check
-compare text_vectors python3 tests/text_vectors.py --check
-compare table_text_vectors python3 tests/table_text_vectors.py --check
-compare shelf_rules python3 tests/shelf_rules.py --check
-compare shelf_runs python3 tests/shelf_runs.py --check
+for name in test_judging test_reading test_text test_shelf; do
+    compare "$name" python3 "tests/$name.py" --check
+done
 compare examples python3 examples/make.py --check
 compare lister_two_eits listed_as examples/two_eits
 compare lister_all_kinds listed_as examples/all_kinds

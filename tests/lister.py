@@ -1,5 +1,5 @@
 #!/usr/bin/env python3
-"""A lister of its own, written from document 01's "The lister" and from nothing of the library.
+"""A lister of its own, written from SCOPE 8 and from nothing of the library.
 
 `listed` takes the input's bytes and gives the output's. Run by itself it lists standard input:
 

@@ -71,7 +71,7 @@ GOOD = record(whole(EIT, eit([event(TEA)]), extension=7))
 BLANK_EIT = record(whole(EIT, eit([]), extension=8))
 GOOD_LINES = ["%d pid 7424 eit 7 v3 0/0 events 1", 'event 5 start 1000 length 1800 title "Tea"']
 
-sort = "the document's example"
+sort = "the example of SCOPE 8.2"
 add(GOOD + BLANK_EIT, EXAMPLE.splitlines()[1:-1])
 add(b"", [])
 

@@ -1,13 +1,9 @@
-#!/usr/bin/env python3
-"""Vectors for the questions to a descriptor list, with the answers that the rules give.
+"""Vectors for the questions to a descriptor list alone, with the answers that the rules give.
 
-Without a word: writes crates/rating_vectors/stdin and stdout. With --check: fails where those files
-are not what this script makes. Each answer is found twice, from the lists as they were put together
+test_reading.py writes them out. Each answer is found twice, from the lists as they were put together
 and by a reader of their bytes, and the two must agree.
 """
 import random
-import struct
-from written import written
 
 LARGEST = 2**64 - 1
 NO_ADVISORY, NO_REGION, NO_DIMENSION = "no advisory", "region absent", "dimension absent"
@@ -120,9 +116,9 @@ def read_text(s, start, end, region):
     return NO_TEXT
 
 
-# ---- the vectors: (question, asked, dimension, start, end, bytes, answer)
-RATING, DESCRIPTOR, TEXT = 0, 1, 2
-vectors = []
+# ---- the vectors
+RATING, DESCRIPTOR, TEXT = 0x51, 0x52, 0x53
+vectors = []  # (op, (what is asked for, dimension, start, end), bytes, answer)
 # before a list and after it stand advisories that are not the list's
 BEFORE = descriptor(0x87, [Region(1, [(0, 9)], string(b"before"))])
 AFTER = descriptor(0x87, [Region(1, [(0, 8)], string(b"after"))])
@@ -136,14 +132,14 @@ def ask(listed, regions, dimensions, before=BEFORE, after=AFTER):
         for dimension in dimensions:
             said = rating_of(listed, region, dimension)
             assert said == read_rating(s, start, end, region, dimension), (said, s.hex())
-            vectors.append((RATING, region, dimension, start, end, s, said))
+            vectors.append((RATING, (region, dimension, start, end), s, said))
         said = text_of(listed, start, region)
         assert said == read_text(s, start, end, region), (said, s.hex())
-        vectors.append((TEXT, region, 0, start, end, s, said))
+        vectors.append((TEXT, (region, 0, start, end), s, said))
     for k in [*range(len(listed) + 2), LARGEST]:
         said = descriptor_of(listed, start, k)
         assert said == read_descriptor(s, start, end, k), (said, s.hex())
-        vectors.append((DESCRIPTOR, k, 0, start, end, s, said))
+        vectors.append((DESCRIPTOR, (k, 0, start, end), s, said))
 
 
 WIDE = [256, 2**32, LARGEST]  # no byte is one of these
@@ -208,15 +204,11 @@ for _ in range(40):
 # ---- what does not fit into the list is not there, wherever the list is said to stand
 CUT = descriptor(0x86, b"xy") + descriptor(0x87, [Region(1, [(0, 5)], string())])
 for start, end in [(0, len(CUT) - 1), (0, 5), (4, 4), (5, 4), (len(CUT), len(CUT)), (LARGEST, 4), (LARGEST, LARGEST), (LARGEST - 1, LARGEST), (LARGEST - 2, LARGEST)]:
-    vectors.append((RATING, 1, 0, start, end, CUT, NO_ADVISORY))
-    vectors.append((TEXT, 1, 0, start, end, CUT, NO_TEXT))
+    vectors.append((RATING, (1, 0, start, end), CUT, NO_ADVISORY))
+    vectors.append((TEXT, (1, 0, start, end), CUT, NO_TEXT))
     for k in (1, LARGEST):
-        vectors.append((DESCRIPTOR, k, 0, start, end, CUT, NO_DESCRIPTOR))
+        vectors.append((DESCRIPTOR, (k, 0, start, end), CUT, NO_DESCRIPTOR))
 
 answers = {said.split()[0] + " " + said.split()[1] for question, *_, said in vectors if question == RATING}
 assert {NO_ADVISORY, NO_REGION, NO_DIMENSION, *("value %d" % v for v in range(16))} == answers, answers
 assert sum(question == RATING for question, *_ in vectors) >= 100
-
-records = b"".join(bytes([v[0]]) + struct.pack(">4QH", *v[1:5], len(v[5])) + v[5] for v in vectors)
-lines = ["%d %s" % (n, v[6]) for n, v in enumerate(vectors)] + ["%d vectors" % len(vectors)]
-written("rating_vectors", records, ("\n".join(lines) + "\n").encode())

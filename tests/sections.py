@@ -1,4 +1,4 @@
-"""Sections and their checksum, built from the document's rules and from nothing of the library."""
+"""Sections and their checksum, built from SCOPE 1 and from nothing of the library."""
 
 KINDS = {  # table_id: (name, smallest, largest, largest last_section_number)
     0xC7: ("mgt", 14, 4093, 0),

@@ -1,9 +1,7 @@
-#!/usr/bin/env python3
-"""Vectors of compressed segments: writes crates/segment_vectors/stdin and stdout, or compares (--check)."""
+"""Vectors of compressed segments, with the answers that the printed lists give; test_text.py writes them out."""
 import random
 
 from annex_c_coder import END, ESCAPE, LISTS, code, decode, encode, pack, raw
-from written import vectors_written
 
 EDGE = 65535
 
@@ -55,7 +53,7 @@ def stem(kind, fits):
                 return bits, last
 
 
-def vectors():
+def segments():
     def both(make):
         for kind in (1, 2):
             yield kind, pack(make(kind))
@@ -129,19 +127,11 @@ def vectors():
             yield kind, bytes(rng.randrange(256) for _ in range(rng.randrange(1, 40)))
 
 
-def main():
-    stdin, lines, texts = b"", [], 0
-    for kind, data in vectors():
-        units = decode(kind, data)
-        stdin += bytes([kind, len(data)]) + data
-        if units is None:
-            lines.append(" refused 11 refused 11: %d %d" % (EDGE, EDGE))
-        else:
-            texts += 1
-            shown = " ".join(str(u) for u in [EDGE] + units + [EDGE])
-            lines.append(" units %d units %d: %s" % (len(units), len(units), shown))
-    vectors_written("segment_vectors", stdin, lines, texts)
+def answer(kind, data):
+    """Judged and written; the output is shown with the units beside the text."""
+    units = decode(kind, data)
+    said = "refused 11" if units is None else "units %d" % len(units)
+    return "%s %s: %s" % (said, said, " ".join(str(u) for u in [EDGE, *(units or []), EDGE]))
 
 
-if __name__ == "__main__":
-    main()
+vectors = [(kind, (), data, answer(kind, data)) for kind, data in segments()]

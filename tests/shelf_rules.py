@@ -1,13 +1,9 @@
-#!/usr/bin/env python3
-"""Shelves that break one rule each, and some that break none, with the refusals that the rules give.
+"""Shelves that break one rule each, and some that break none, with the refusals that the rules give; test_shelf.py writes them out.
 
-Without a word: writes crates/shelf_rules/stdin and stdout; with --check: compares. The rules are written out here from the
-document and from nothing of the library; each shelf that is made to break a rule names it, and the
-rules as written here must say that it breaks that rule and no other. Random shelves follow.
+The rules are written out here from SCOPE 5 and from nothing of the library; each shelf that is made to break a rule names it,
+and the rules as written here must say that it breaks that rule and no other. Random shelves follow.
 """
 import random
-
-from written import written
 
 EIT = 0xCB
 IDS = (0xC7, 0xC8, 0xCA, 0xCB, 0xCC)
@@ -52,7 +48,7 @@ class Shelf:
 
 
 def broken(s):
-    """The rules that the shelf breaks, by the document's words."""
+    """The rules that the shelf breaks, by the words of SCOPE 5.3."""
     out = set()
     if not (1 <= s.records <= 16 and 1 <= s.count <= 64 and s.area == s.count * 4096):
         return {"sizes"}
@@ -195,9 +191,5 @@ def random_shelf(rng):
     return s
 
 
-if __name__ == "__main__":
-    rng = random.Random(7)
-    shelves = cases + [random_shelf(rng) for _ in range(400)]
-    lines = [f"{i} {answer(s)}" for i, s in enumerate(shelves)] + [f"{len(shelves)} shelves"]
-    print(len(cases), "made,", len(shelves) - len(cases), "random,", sum(" 14 " in l for l in lines), "broken")
-    written("shelf_rules", b"".join(s.bytes() for s in shelves), ("\n".join(lines) + "\n").encode())
+rng = random.Random(7)
+vectors = [(ord("r"), (), s.bytes(), answer(s)) for s in cases + [random_shelf(rng) for _ in range(400)]]

@@ -1,10 +1,9 @@
-#!/usr/bin/env python3
-"""Histories of random calls on shelves of all sizes, with what the document says after each call.
+"""Histories of random calls on shelves of all sizes, with what docs/SCOPE.md says after each call; test_shelf.py writes them out.
 
-Without a word: writes crates/shelf_runs/stdin and stdout; with --check: compares. The shelf is written out here from the
-document and from nothing of the library: a list of watches, for each place what it holds, and the lent area. After each call the
-line has the answer, a digest of all records and places, and a digest of the whole area, whose bytes stay where
-nothing is stored. Adler-32 serves, and no checksum register: that cannot tell one sound section from another of its length.
+The shelf is written out here from SCOPE 5 and from nothing of the library: a list of watches, for each place what it holds,
+and the lent area. After each call the line has the answer, a digest of all records and places, and a digest of the whole area, whose
+bytes stay where nothing is stored. Adler-32 serves, and no checksum register: that cannot tell one sound section from another of its
+length.
 """
 import collections
 import random
@@ -12,7 +11,6 @@ import zlib
 
 from bodies import section_outcome
 from sections import EIT, ETT, KINDS, MGT, RRT, TVCT, Refused, sealed, section
-from written import written
 
 PLACE, PLACES = 4096, 64
 
@@ -170,11 +168,11 @@ def size(rng):
 
 # ---- histories
 class History:
-    """The calls as bytes and their lines, on one area that stays from shelf to shelf; and how often what arose."""
+    """The calls as vectors, on one area that stays from shelf to shelf; and how often what arose."""
 
     def __init__(self, seed):
         self.rng, self.area = random.Random(seed), bytearray(PLACES * PLACE)
-        self.calls, self.lines, self.counts = [], [], collections.Counter()
+        self.vectors, self.counts = [], collections.Counter()
         self.shelf, self.before = Shelf(1, 1, self.area), []
 
     def call(self, letter, data, name, answer, lent=None):
@@ -190,8 +188,8 @@ class History:
         self.counts[f"{name} {said}" if "refused" in said else name] += 1
         self.counts["all places taken"] += None not in self.shelf.places
         self.counts["64 sections held"] += None not in self.shelf.places and len(self.shelf.places) == PLACES
-        self.calls.append(letter.encode() + lent.to_bytes(4, "big") + data)
-        self.lines.append(f"{len(self.lines)} {name} {said} {digest(self.shelf.numbers())} {zlib.adler32(self.area)}")
+        self.vectors.append((ord(letter), (lent,), data,
+                             f"{name} {said} {digest(self.shelf.numbers())} {zlib.adler32(self.area)}"))
 
     def empty(self, places, records):
         def made():
@@ -224,7 +222,7 @@ class History:
             self.counts["version 0 after 31"] += edition is not None and (edition[0], now[0]) == (31, 0)
             self.counts["equal bytes"] += (was, area) == (list(self.shelf.numbers()), self.area)
             return said
-        self.call("d", pid.to_bytes(2, "big") + len(s).to_bytes(2, "big") + s, "deliver", delivered, lent)
+        self.call("d", pid.to_bytes(2, "big") + s, "deliver", delivered, lent)
 
     def run(self, count, keys, quotas, lasts, versions, turn=0.12, shut=0.02):
         """`turn`, `shut`: how often an edition changes, and a watch is closed."""
@@ -281,13 +279,9 @@ def histories():
     return h
 
 
-if __name__ == "__main__":
-    h = histories()
-    for name, n in sorted(h.counts.items()):
-        print(n, name)
-    met = {int(name.split()[-1]) for name in h.counts if "refused" in name}
-    assert met == {*range(1, 10), *range(14, 23)}, met
-    for name in "all places taken", "64 sections held", "another edition", "version 0 after 31", "equal bytes":
-        assert h.counts[name] > 30, name
-    print(len(h.lines), "calls")
-    written("shelf_runs", b"".join(h.calls), ("\n".join(h.lines) + "\nend\n").encode())
+history = histories()
+vectors = history.vectors
+met = {int(name.split()[-1]) for name in history.counts if "refused" in name}
+assert met == {*range(1, 10), *range(14, 23)}, met
+for name in "all places taken", "64 sections held", "another edition", "version 0 after 31", "equal bytes":
+    assert history.counts[name] > 30, name

@@ -1,13 +1,8 @@
-#!/usr/bin/env python3
 """Vectors for the fields of the five tables and for the rating question, with the answers.
 
-Without a word: writes crates/table_vectors/stdin and stdout. With --check: fails where those files
-are not what this script makes. The answers come from the reader in tables.py, from the document's
-rules and from nothing of the library; where a vector says what its answer is meant to be, the
-reader must agree.
-
-A record of stdin is an op, three numbers a, b and c of 8 bytes, a length of 2 bytes and the
-section. The high four bits of the op are the table's (ORDER), and its low four bits ask for
+test_reading.py writes them out. The answers come from the reader in tables.py, from SCOPE 2
+and 3 and from nothing of the library; where a vector says what its answer is meant to be, the
+reader must agree. The high four bits of an op are the table's (ORDER), and its low four bits ask for
   1  the table's own fields
   2  entry a: an event, a table, a channel, a dimension
   3  the rows of all entries, in a lent list of a numbers that are 7 before; of an RRT instead
@@ -15,8 +10,8 @@ section. The high four bits of the op are the table's (ORDER), and its low four 
   4  the rating of event a for region b and dimension c
   5  descriptor b of event a
   6  the advisory text of event a for region b
-Texts and descriptor lists are answered by the offset of their first byte and their length. A line
-of stdout is the record's number and its answer; after the answer for rows stands the whole list.
+Texts and descriptor lists are answered by the offset of their first byte and their length. After
+the answer for rows stands the whole list.
 """
 import random
 
@@ -24,7 +19,6 @@ from body_vectors import (D, TEA, TWO, advisory, descriptor, list_of, region, st
                           text_of)
 from sections import EIT, ETT, MGT, RRT, TVCT, Refused, section, spoiled
 from tables import ADVISORY, advisory_text, entry, first_advisory, read, read_descriptors
-from written import written
 
 ORDER = (EIT, ETT, MGT, TVCT, RRT)  # by the high four bits of an op
 ASKED = {EIT: (1, 2, 3, 4, 5, 6), ETT: (1,), MGT: (1, 2, 3), TVCT: (1, 2, 3), RRT: (1, 2, 3)}
@@ -85,7 +79,7 @@ def answer(op, a, b, c, s, lent):
     return spaced(advisory_text(first_advisory(s, one), b))
 
 
-vectors = []  # (op, a, b, c, bytes, answer)
+vectors = []  # (op, numbers, bytes, answer)
 
 
 def add(kind, asked, s, a=0, b=0, c=0, meant=""):
@@ -98,7 +92,7 @@ def add(kind, asked, s, a=0, b=0, c=0, meant=""):
     except Refused as refused:
         said = "refused %d" % refused.args
     assert said.split()[:len(meant.split())] == meant.split(), (op, a, b, c, meant, said, s.hex())
-    vectors.append((op, a, b, c, s, said + ":" * rows + "".join(" %d" % n for n in lent)))
+    vectors.append((op, (a, b, c), s, said + ":" * rows + "".join(" %d" % n for n in lent)))
 
 
 # ---- the builder: fields are strings of bits
@@ -439,9 +433,3 @@ for kind, s in SAMPLES.items():
         for other in ORDER:
             if other != kind:
                 add(kind, asked, SAMPLES[other], 70 if rows else 0, meant="refused 2")
-
-records = b"".join(bytes([op]) + b"".join(n.to_bytes(8, "big") for n in asked)
-                   + len(s).to_bytes(2, "big") + s for op, *asked, s, _ in vectors)
-lines = ["%d %s" % (n, vector[-1]) for n, vector in enumerate(vectors)]
-lines.append("%d vectors" % len(vectors))
-written("table_vectors", records, ("\n".join(lines) + "\n").encode())

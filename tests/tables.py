@@ -1,4 +1,4 @@
-"""A reader of the fields of the five tables, and of an event's first advisory, from the document's rules and from nothing of the
+"""A reader of the fields of the five tables, and of an event's first advisory, from SCOPE 2 and 3 and from nothing of the
 library. Texts and descriptor lists are read as the offset of their first byte and their length."""
 from bodies import section_outcome
 from sections import EIT, ETT, MGT, RRT, TVCT, Refused

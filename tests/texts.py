@@ -1,4 +1,4 @@
-"""Text fields, read and made after document 01's "Text" and its order of refusals, and from nothing of the library."""
+"""Text fields, read and made after SCOPE 4 and the order of a text in SCOPE 6.2, and from nothing of the library."""
 from annex_c_coder import decode, encode, pack
 from sections import Refused
 

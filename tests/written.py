@@ -1,20 +1,25 @@
-"""What a script of vectors has made goes to its program's stdin and stdout, or is compared with them."""
+"""What a script of vectors has made goes to its program's stdin and stdout, or is compared with them (README.md)."""
 import pathlib
+import struct
 import sys
 
 
-def written(crate, stdin, stdout):
-    """Writes crates/CRATE/stdin and stdout; with --check fails where those are not what was made."""
+def vector(op, numbers, data):
+    """A vector as its program reads it; numbers that are left out are 0."""
+    return struct.pack(">B4QH", op, *numbers, *[0] * (4 - len(numbers)), len(data)) + data
+
+
+def written(crate, vectors):
+    """Writes crates/CRATE/stdin and stdout; with --check fails where those are not what was made.
+
+    `vectors`: of each its op, its numbers, its bytes, and the words of the line that is to answer it.
+    """
+    stdin = b"".join(vector(*asked) for *asked, _ in vectors)
+    lines = ["%d %s\n" % (n, said) for n, (*_, said) in enumerate(vectors)] + ["%d vectors\n" % len(vectors)]
     folder = pathlib.Path(__file__).resolve().parent.parent / "crates" / crate
-    for name, data in ("stdin", stdin), ("stdout", stdout):
+    for name, data in ("stdin", stdin), ("stdout", "".join(lines).encode()):
         if sys.argv[1:] != ["--check"]:
             (folder / name).write_bytes(data)
         elif (folder / name).read_bytes() != data:
             sys.exit("%s is not what its script makes" % (folder / name))
-
-
-def vectors_written(crate, stdin, lines, texts):
-    """The same of numbered vectors, a line each; tells how many there are and how many of them are texts."""
-    stdout = "".join("%d%s\n" % (n, line) for n, line in enumerate(lines)) + "vectors %d\n" % len(lines)
-    written(crate, stdin, stdout.encode())
-    print("%d vectors, %d of them texts, %d bytes" % (len(lines), texts, len(stdin)))
+    print("%s: %d vectors, %d bytes" % (crate, len(vectors), len(stdin)))

@@ -1,0 +1,104 @@
+// Digests: two sums, of the numbers and of the sums so far. Of bytes it is Adler-32. A checksum register would not do: it cannot
+// tell one sound section from another of its length.
+use shelf_state::Key;
+use shelf_state::Place;
+use shelf_state::Shelf;
+use shelf_state::Watch;
+use shelf_state::inner::wide;
+use shelf_state::inner::wide_word;
+use std::num::wrapping_add_u64;
+
+struct Sums {
+    numbers: u64,
+    sums: u64,
+}
+
+fn number(d: Sums, x: usize) -> Sums {
+    let n = wrapping_add_u64(d.numbers, x as u64);
+    Sums {
+        numbers: n,
+        sums: wrapping_add_u64(d.sums, n),
+    }
+}
+
+fn told(d: Sums) -> usize {
+    (d.sums % 65521 * 65536 + d.numbers % 65521) as usize
+}
+
+pub fn of_bytes(s: &[u8]) -> usize {
+    let mut d = Sums {
+        numbers: 1,
+        sums: 0,
+    };
+    let mut i = 0;
+    while i < s.len() {
+        d = number(d, wide(s[i]));
+        i += 1;
+    }
+    told(d)
+}
+
+fn flag(d: Sums, b: bool) -> Sums {
+    number(d, if b { 1 } else { 0 })
+}
+
+fn key(d: Sums, k: Key) -> Sums {
+    let e = number(d, wide_word(k.pid));
+    let f = number(e, wide(k.table_id));
+    number(f, wide_word(k.extension))
+}
+
+fn edition(d: Sums, w: Watch) -> Sums {
+    let e = flag(d, w.heard);
+    let f = number(e, wide(w.version));
+    number(f, wide(w.last))
+}
+
+fn watch(d: Sums, w: Watch) -> Sums {
+    let e = flag(d, w.live);
+    let f = key(e, w.key);
+    let g = number(f, wide(w.quota));
+    edition(g, w)
+}
+
+fn place(d: Sums, p: Place) -> Sums {
+    let e = flag(d, p.used);
+    let f = number(e, wide(p.watch));
+    let g = number(f, wide(p.number));
+    number(g, wide_word(p.length))
+}
+
+fn watches(d: Sums, s: Shelf) -> Sums {
+    let n = s.records;
+    let mut e = number(d, n);
+    let mut i = 0;
+    while i < n {
+        if i < 16 {
+            e = watch(e, s.watches[i]);
+        }
+        i += 1;
+    }
+    e
+}
+
+fn places(d: Sums, s: Shelf) -> Sums {
+    let n = s.count;
+    let mut e = number(d, n);
+    let mut i = 0;
+    while i < n {
+        if i < 64 {
+            e = place(e, s.places[i]);
+        }
+        i += 1;
+    }
+    e
+}
+
+// The sizes, and the records and places that are in use.
+pub fn of_records(s: Shelf) -> usize {
+    let none = Sums {
+        numbers: 1,
+        sums: 0,
+    };
+    told(places(watches(none, s), s))
+}
