@@ -2,37 +2,64 @@
 -- EIT, and all other tags are opaque.
 use Prim.Native.Nat.{ℕ}
 use mathlib.Core.Path.{refl}
-use mathlib.Core.List.{[], _∷_}
+use mathlib.Core.Logic.{_⊎_}
+use mathlib.Core.List.{List, [], _∷_}
 use native.Mathlib.Omega.{arith}
 use lib.ListN.{length}
 use lib.Dec.{eqb}
-use Rattle.format.specs.Formats.{One, Format, Filling, last, lastButOne, both, filledBy, seq, exact, any, choice, list, Full}
+use Rattle.format.specs.Formats.{One, Format, Filling, last, lastButOne, both, filledBy, seq, exact, any, choice, list, Full, under}
 use Rattle.format.specs.Values.{bits, reserved}
 use Rattle.format.specs.Named.{named}
 use Rattle.format.specs.Told.{Tells, told, told-full, all8, counting, few, sized12, sized10}
-use Rattle.strings.specs.Strings.{sizedText}
+use Rattle.strings.specs.Strings.{text, sizedText}
 
 -- dimension 8, r 4, value 4
+pub record RatingFields : Type 0 where
+  pub dimension : ℕ
+  pub r : ℕ
+  pub value : ℕ
+
 unfoldable pub dimension : Format One
-dimension = named (bits 8 ∷ reserved 4 ∷ bits 4 ∷ []) 2 refl
+dimension =
+    under (named (bits 8 ∷ reserved 4 ∷ bits 4 ∷ []) 2 refl) {Y = RatingFields} (λ d. (d .dimension, (d .r, (d .value, record {}))))
+    (λ x. record { dimension = x .0; r = x .1 .0; value = x .1 .1 .0 }) (λ x. refl) (λ y. refl)
 
 -- region 8, dimension count 8, and its dimensions
 unfoldable pub rated : Format One
 rated = counting (bits 8 ∷ []) 1 refl dimension
 
 -- a region with its dimensions, and that region's text with an 8-bit length
+pub record RegionFields : Type 0 where
+  pub region : ℕ
+  pub ratings : List RatingFields
+  pub text : text .Val
+
 unfoldable pub region : Format One
-region = seq rated sizedText
+unfolding rated dimension sizedText
+region =
+    under (seq rated sizedText) {Y = RegionFields} (λ g. (((g .region, record {}), g .ratings), (record {}, g .text)))
+    (λ x. record { region = x .0 .0 .0; ratings = x .0 .1; text = x .1 .1 }) (λ x. refl) (λ y. refl)
 
 -- r 2, region count 6, and the regions
+pub record AdvisoryFields : Type 0 where
+  pub r : ℕ
+  pub regions : List RegionFields
+
 unfoldable pub advisory : Format One
-advisory = few (reserved 2 ∷ []) 6 refl region
+unfolding region
+advisory =
+    under (few (reserved 2 ∷ []) 6 refl region) {Y = AdvisoryFields} (λ a. ((a .r, record {}), a .regions))
+    (λ x. record { r = x .0 .0; regions = x .1 }) (λ x. refl) (λ y. refl)
 
 -- what stands in a descriptor of a tag: where the tag is the judged one, an advisory that fills it, and else any bytes
 unfoldable pub content : ℕ → Filling ℕ
 content judged = choice (eqb judged) (exact advisory) any
 
 -- tag 8, length 8, that many bytes
+pub record DescriptorFields : Type 0 where
+  pub tag : ℕ
+  pub content : AdvisoryFields ⊎ List ℕ
+
 pub tag-tells : Tells (bits 8 ∷ []) 8 2 (both last lastButOne) (λ v m. (m, v .0))
 tag-tells h l z = let a = all8 h 1 z in let b = all8 h 0 z in λ i. (a i, b i)
 
@@ -46,12 +73,33 @@ module _ (judged : ℕ) where
       (λ x. length (content judged .enc x)) (λ v m x o. o .0) (omega arith)
 
 unfoldable pub descriptor : ℕ → Format One
-descriptor judged = tagged judged
+unfolding content advisory
+descriptor judged =
+    under (tagged judged) {Y = DescriptorFields} (λ d. ((d .tag, record {}), d .content))
+    (λ x. record { tag = x .0 .0; content = x .1 }) (λ x. refl) (λ y. refl)
 
 -- a descriptor list, which fills its container
 unfoldable pub descriptors : ℕ → Filling One
+unfolding descriptor content advisory
+descriptors judged = list (descriptor judged) (λ d o. tagged-full judged ((d .tag, record {}), d .content) o)
+
+-- the descriptors of a list
+unfoldable pub descriptorsOf : (judged : ℕ) → descriptors judged .Val → List DescriptorFields
+unfolding descriptors descriptor
+descriptorsOf judged ds = ds
+
+-- the bytes of a region, of a descriptor's content, and of a descriptor
+unfoldable pub regionBytes : RegionFields → List ℕ
+unfolding region
+regionBytes g = region .enc g
+
+unfoldable pub contentBytes : ℕ → DescriptorFields → List ℕ
+unfolding content advisory
+contentBytes judged d = content judged .enc (d .content)
+
+unfoldable pub descriptorBytes : ℕ → DescriptorFields → List ℕ
 unfolding descriptor
-descriptors judged = list (descriptor judged) (tagged-full judged)
+descriptorBytes judged d = descriptor judged .enc d
 
 -- r 4, descriptors_length 12, and a descriptor list of that length
 unfoldable pub list12 : ℕ → Format One

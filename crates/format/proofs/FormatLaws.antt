@@ -1,5 +1,5 @@
--- Laws of every format, and so of every table: what is accepted, of which value the bytes are, where an entry stands, and how
--- what has a head and what is put together walk.
+-- Laws of every format, and so of every table: what is accepted, of which value the bytes are, and how what has a head and what
+-- is put together walk.
 use Prim.Native.Nat.{ℕ, _+_, _-_, _*_, _≤_, _<_}
 use mathlib.Core.Path.{_≡_, refl, sym, ap, _∙_}
 use mathlib.Core.Logic.{_↔_}
@@ -8,11 +8,11 @@ use native.Mathlib.Omega.{arith}
 use lib.ListN.{length, take, drop, length-append}
 use Rattle.bytes_at.specs.declared.Walk.{Walk}
 use Rattle.bytes_at.specs.declared.Walk.the-variants.{To, Bad}
-use Rattle.bytes_at.specs.Walks.{then, many}
-use Rattle.bytes_at.proofs.WalkLaws.{then-to, then-inv}
-use Rattle.format.specs.Lawful.{Lies, part, Bytes, total, All, encs}
-use Rattle.format.specs.Laws.OfBytes.{lies-at, lies-split, part-length}
-use Rattle.format.specs.Formats.{One, Format, Filling, Reader, Full, head, walks}
+use Rattle.bytes_at.specs.Walks.{then}
+use Rattle.bytes_at.proofs.WalkLaws.{then-inv}
+use Rattle.format.specs.Lawful.{part, Bytes, total}
+use Rattle.format.specs.Laws.OfBytes.{part-length}
+use Rattle.format.specs.Formats.{Format, Filling, Reader, Full, head, walks}
 use Rattle.format.proofs.FieldLaws.{fields-end}
 
 -- ---- a container that lies within a section's bytes
@@ -53,25 +53,6 @@ once f c x y o r e g = (f .law c) .unique x y [] [] o r (ap (λ l. l ++ []) (sym
 pub once-all : {C : Type 0} (f : Filling C) (c : C) {l : List ℕ} (x y : f .Val) → f .Ok c x → f .Ok c y
     → l ≡ f .enc x → l ≡ f .enc y → x ≡ y
 once-all f c x y o r e g = (f .law c) .unique x y o r (sym e ∙ g)
-
--- ---- entries
--- in entries that stand one after the other: where the entry after ys stands, and that the walk of as many steps comes there
-module _ (f : Format One) (s : List ℕ) (end : ℕ) where
-  pub nth : (at : ℕ) (ys : List (f .Val)) (x : f .Val) (zs : List (f .Val)) → All (f .Ok (record {})) (ys ++ (x ∷ zs))
-      → Lies (encs (f .enc) (ys ++ (x ∷ zs))) s at → at + length (encs (f .enc) (ys ++ (x ∷ zs))) ≤ end
-      → (many (walks f s end) (length ys) at ≡ To (at + length (encs (f .enc) ys)))
-      × Lies (f .enc x) s (at + length (encs (f .enc) ys))
-  unfolding many
-  nth at [] x zs g l h =
-      (ap To (omega arith), lies-at (f .enc x) s at (at + 0) (omega arith) (lies-split (f .enc x) (encs (f .enc) zs) s at l .0))
-  nth at (y ∷ ys) x zs g l h =
-      let j = length-append (f .enc y) (encs (f .enc) (ys ++ (x ∷ zs))) in
-      let k : at + length (f .enc y) + length (encs (f .enc) ys) ≡ at + length (f .enc y ++ encs (f .enc) ys) =
-      omega (arith, length-append (f .enc y) (encs (f .enc) ys)) in
-      let i = lies-split (f .enc y) (encs (f .enc) (ys ++ (x ∷ zs))) s at l in
-      let u = (f .law (record {})) .sound s end at y (g .0) (i .0) (omega arith) in
-      let v = nth (at + length (f .enc y)) ys x zs (g .1) (i .1) (omega arith) in
-      (then-to _ _ (at + length (f .enc y)) _ u (v .0 ∙ ap To k), lies-at (f .enc x) s _ _ k (v .1))
 
 -- ---- heads
 -- what has a head is not empty

@@ -3,3 +3,4 @@ pub mod RepeatLaws
 pub mod FormatLaws
 pub mod RelocationLaws
 pub mod SizedLaws
+pub mod ListedLaws

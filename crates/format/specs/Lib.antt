@@ -5,3 +5,4 @@ pub mod Formats
 pub mod Values
 pub mod Named
 pub mod Told
+pub mod Listed

@@ -1,5 +1,6 @@
 -- Fields by their widths: their values, the number that they are together, and its bytes.
-use Prim.Native.Nat.{ℕ, zero, suc, _+_, _*_, _/_, _%_, _^_, _<_}
+use Prim.Native.Nat.{ℕ, zero, suc, _+_, _-_, _*_, _/_, _%_, _^_, _<_}
+use mathlib.Core.Path.{_≡_}
 use mathlib.Core.List.{List, [], _∷_}
 use Rattle.format.specs.Formats.{One}
 use Rattle.bytes_at.specs.Bits.{fieldAt}
@@ -39,6 +40,13 @@ Vals (f ∷ fs) = ℕ × Vals fs
 abbrev pub Fit : (fs : List Field) → Vals fs → Type 0
 Fit [] v = One
 Fit (f ∷ fs) v = (v .0 < 2 ^ bitsOf f) × Fit fs (v .1)
+
+-- those that are reserved have all their bits 1
+abbrev pub Ones : (fs : List Field) → Vals fs → Type 0
+Ones [] v = One
+Ones (bits n ∷ fs) v = Ones fs (v .1)
+Ones (reserved n ∷ fs) v = (v .0 ≡ 2 ^ n - 1) × Ones fs (v .1)
+Ones (piece n ∷ fs) v = Ones fs (v .1)
 
 -- one after the other, the first highest, they are one number
 abbrev pub number : (fs : List Field) → Vals fs → ℕ

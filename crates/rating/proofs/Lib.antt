@@ -2,3 +2,8 @@ pub mod FirstLaws
 pub mod DescriptorLaws
 pub mod AnswerLaws
 pub mod MatchLaws
+pub mod OnceLaws
+pub mod ListedLaws
+pub mod ValueLaws
+pub mod ThereLaws
+pub mod TextLaws

@@ -12,7 +12,7 @@ orElse true a b = a
 orElse false a b = b
 
 -- the refusal that has this number
-numbered : ℕ → Refusal
+pub numbered : ℕ → Refusal
 numbered n =
     orElse (eqb n 1) TooShort
     (orElse (eqb n 2) OtherTable
@@ -38,7 +38,7 @@ numbered n =
     (orElse (eqb n 22) NotHeld
     (orElse (eqb n 23) FieldTooLarge SectionTooLong))))))))))))))))))))))
 
-numbered-back : (k : Refusal) → numbered (numberOf k) ≡ k
+pub numbered-back : (k : Refusal) → numbered (numberOf k) ≡ k
 unfolding numbered orElse
 numbered-back TooShort = refl
 numbered-back OtherTable = refl

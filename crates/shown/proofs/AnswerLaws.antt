@@ -7,12 +7,13 @@ use lib.ListN.{length, take, drop, length-append}
 use lib.Seq.{take-at}
 use Rattle.refusal.specs.Numbers.{numberOf}
 use Rattle.refusal.specs.Outcomes.{Outcome, refused, result, after}
+use Rattle.refusal.proofs.OutcomeLaws.{same-result, not-both}
 use Rattle.logic.proofs.ChoiceLaws.{lt-no}
 use Rattle.text.specs.declared.answer.Answer.{Answer}
 use Rattle.text.specs.declared.answer.Answer.the-variants.{Refused, Value}
 use Rattle.text.specs.Answers.{numberOutcome}
-use Rattle.text.specs.Texts.{fitting, counted, outputAfter}
-use Rattle.text.proofs.OutcomeLaws.{same-result, not-both}
+use Rattle.refusal.specs.Outputs.{counted, outputAfter}
+use Rattle.text.specs.Texts.{fitting}
 use Rattle.shown.specs.Inner.{told, Fits}
 
 told-units : (r : Answer) (us l e : List ℕ) → numberOutcome r ≡ result (length us) → e ≡ us ++ drop (length us) l → Fits r e × (told r e ≡ result us)

@@ -14,6 +14,7 @@ use Rattle.bytes_at.proofs.WalkLaws.{skipped, then-inv}
 use Rattle.refusal.specs.Numbers.{numberOf}
 use Rattle.refusal.specs.Outcomes.{Outcome, refused, result, after}
 use Rattle.refusal.specs.declared.Refusal.{Refusal}
+use Rattle.refusal.proofs.OutcomeLaws.{same-result, not-both}
 use Rattle.format.specs.Formats.{walks}
 use Rattle.format.proofs.FieldLaws.{fields-end}
 use Rattle.strings.specs.Strings.{segment}
@@ -21,9 +22,9 @@ use Rattle.text.specs.declared.answer.Answer.{Answer}
 use Rattle.text.specs.declared.answer.Answer.the-variants.{Value, Refused}
 use Rattle.text.specs.Segments.{segmentUnits}
 use Rattle.text.specs.Strings.{standing, joined, joinedUnits}
-use Rattle.text.specs.Texts.{counted}
+use Rattle.refusal.specs.Outputs.{counted}
 use Rattle.text.specs.Inner.{stored, Wrote, WroteAll}
-use Rattle.text.proofs.OutcomeLaws.{same-result, not-both, from-number, from-refusal}
+use Rattle.refusal.proofs.OutputLaws.{from-number, from-refusal}
 
 -- ---- the walk past one segment
 pub many-once : (p : ℕ → Walk) (at : ℕ) → many p 1 at ≡ p at

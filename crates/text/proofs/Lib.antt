@@ -1,7 +1,9 @@
-pub mod OutcomeLaws
 pub mod UnitLaws
 pub mod JoinLaws
 pub mod TextLaws
 pub mod SoundLaws
 pub mod FewLaws
+pub mod ThereLaws
+pub mod ValueLaws
 pub mod Examples
+pub mod OnceLaws

@@ -11,6 +11,7 @@ use Rattle.logic.proofs.ChoiceLaws.{eq-yes, eq-no}
 use Rattle.refusal.specs.Numbers.{numberOf}
 use Rattle.refusal.specs.Outcomes.{Outcome, refused, result}
 use Rattle.refusal.specs.declared.Refusal.{Refusal}
+use Rattle.refusal.proofs.OutcomeLaws.{same-result, not-both}
 use Rattle.annex_c.specs.Codes.{Reading}
 use Rattle.segment.specs.declared.Judged.{Judged}
 use Rattle.segment.specs.declared.Judged.the-variants.{Units, Refused}
@@ -25,7 +26,7 @@ use Rattle.text.specs.declared.answer.Answer.the-variants as answers
 use Rattle.text.specs.declared.segments.Way.{Way}
 use Rattle.text.specs.Segments.{wayOf, pairs, utf16Units, textUnits, unitsBy, segmentUnits}
 use Rattle.text.specs.Inner.{plain, stored, Wrote}
-use Rattle.text.proofs.OutcomeLaws.{same-result, not-both, counted-result, counted-refused}
+use Rattle.refusal.proofs.OutputLaws.{counted-result, counted-refused}
 
 -- ---- pairs of bytes
 pub pairs-length : (s : List ℕ) → length (pairs s) ≡ length s / 2

@@ -11,7 +11,7 @@ use Rattle.annex_c.specs.Table2.{table2}
 use Rattle.text.specs.declared.answer.Answer.{Answer}
 use Rattle.text.specs.Answers.{numberOutcome}
 use Rattle.text.specs.Segments.{pairs}
-use Rattle.text.specs.Texts.{counted}
+use Rattle.refusal.specs.Outputs.{counted}
 
 -- the decode tables of annex C are lent
 pub record Tables (t d : List ℕ) : Type 0 where

@@ -15,7 +15,8 @@ ghost use lib.ListN.{length};
 ghost use Rattle.bytes_at.specs.Fields.{byteAt};
 ghost use Rattle.text.specs.Answers.{numberOutcome, headingOutcome};
 ghost use Rattle.text.specs.Strings.{stringCount, stringAt, joinedUnits, stringUnits, stringHeading};
-ghost use Rattle.text.specs.Texts.{fitting, counted, outputAfter};
+ghost use Rattle.refusal.specs.Outputs.{counted, outputAfter};
+ghost use Rattle.text.specs.Texts.{fitting};
 ghost use Rattle.text.specs.Inner.{Tables};
 
 // number_strings.

@@ -1,7 +1,7 @@
 -- `judge_and_write` meets its contract.
 use Rattle.text.specs.Strings.{joinedUnits}
 use Rattle.text.proofs.TextLaws.{text-refused, text-short, text-fits}
-use Rattle.text.proofs.OutcomeLaws.{from-refusal}
+use Rattle.refusal.proofs.OutputLaws.{from-refusal}
 use Rattle.text.specs.Answers.{numberOutcome}
 use mathlib.Core.Path.{sym, ap, _∙_}
 use borrow.Author.Needs.{needs}
