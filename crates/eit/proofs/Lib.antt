@@ -4,3 +4,5 @@ pub mod EventLaws
 pub mod EventsLaws
 pub mod TitleLaws
 pub mod ThereLaws
+pub mod GivenLaws
+pub mod WriteLaws

@@ -2,7 +2,7 @@
 use Prim.Native.Nat.{ℕ}
 use mathlib.Core.Path.{refl}
 use mathlib.Core.List.{List, [], _∷_}
-use Rattle.format.specs.Formats.{One, Format, Filling, seq, exact, under}
+use Rattle.format.specs.Formats.{One, Format, Filling, seq, exact, under, underAll}
 use Rattle.format.specs.Values.{Field, bits, reserved, Vals}
 use Rattle.format.specs.Named.{named}
 use Rattle.format.specs.Told.{counting, sized8, sized12}
@@ -27,19 +27,26 @@ headOf h = (h .r1, (h .id, (h .start, (h .r2, (h .etm, (h .seconds, record {})))
 abbrev pub headIn : Vals eventHead → EventHead
 headIn v = record { r1 = v .0; id = v .1 .0; start = v .1 .1 .0; r2 = v .1 .1 .1 .0; etm = v .1 .1 .1 .1 .0; seconds = v .1 .1 .1 .1 .1 .0 }
 
--- those; title_length 8, title; r 4, descriptors_length 12, descriptors, in which advisories are judged
-pub record EventFields : Type 0 where
+-- those; title_length 8, title; r 4, descriptors_length 12, descriptors. What fills a title and a list is told by their formats: a
+-- text, and descriptors in which advisories are judged, where an event is read; any bytes, where they are given to be written
+pub record EventOf (T D : Type 0) : Type 0 where
   pub head : EventHead
-  pub title : text .Val
+  pub title : T
   pub r : ℕ
-  pub descs : descriptors contentAdvisory .Val
+  pub descs : D
 
-abbrev pub eventFormat : Format One
-eventFormat =
-    under (seq (named eventHead 9 refl) (seq (sized8 text) (sized12 (descriptors contentAdvisory)))) {Y = EventFields}
+abbrev pub eventOf : Filling One → Filling One → Format One
+eventOf t d =
+    under (seq (named eventHead 9 refl) (seq (sized8 t) (sized12 d))) {Y = EventOf (t .Val) (d .Val)}
     (λ e. (headOf (e .head), ((record {}, e .title), ((e .r, record {}), e .descs))))
     (λ x. record { head = headIn (x .0); title = x .1 .0 .1; r = x .1 .1 .0 .0; descs = x .1 .1 .1 })
     (λ x. refl) (λ y. refl)
+
+abbrev pub EventFields : Type 0
+EventFields = EventOf (text .Val) (descriptors contentAdvisory .Val)
+
+abbrev pub eventFormat : Format One
+eventFormat = eventOf text (descriptors contentAdvisory)
 
 unfoldable pub event : Format One
 event = eventFormat
@@ -47,6 +54,20 @@ event = eventFormat
 -- count 8, and the events
 unfoldable pub events : Format One
 events = counting [] 0 refl event
+
+pub record EitOf (T D : Type 0) : Type 0 where
+  pub events : List (EventOf T D)
+
+abbrev pub eitOf : Filling One → Filling One → Filling One
+eitOf t d =
+    underAll (exact (counting [] 0 refl (eventOf t d))) {Y = EitOf (t .Val) (d .Val)} (λ b. (record {}, b .events))
+    (λ x. record { events = x .1 }) (λ x. refl) (λ y. refl)
+
+abbrev pub EitFields : Type 0
+EitFields = EitOf (text .Val) (descriptors contentAdvisory .Val)
+
+abbrev pub eitFormat : Filling One
+eitFormat = eitOf text (descriptors contentAdvisory)
 
 unfoldable pub eit : Filling One
 eit = exact events

@@ -1,9 +1,11 @@
--- What is answered for a value of the format, where its encoding lies at a.
+-- What is answered for a value of the format, where its encoding lies at a place.
 use Prim.Native.Nat.{ℕ, _+_}
+use mathlib.Core.Path.{_≡_}
 use mathlib.Core.List.{List, [], _∷_, _++_}
 use mathlib.Core.Option.{none, some}
 use lib.ListN.{length}
-use Rattle.format.specs.Values.{behind}
+use Rattle.format.specs.Lawful.{All}
+use Rattle.format.specs.Values.{Ones, behind}
 use Rattle.part.specs.declared.Part.{Part}
 use Rattle.strings.specs.Strings.{text, structure}
 use Rattle.descriptor.specs.Descriptors.{descriptors, contentAdvisory}
@@ -11,14 +13,16 @@ use Rattle.row.specs.Rows.{partRow}
 use Rattle.eit.specs.declared.event.Title.{Title}
 use Rattle.eit.specs.declared.event.Title.the-variants.{None, NoStrings, Text}
 use Rattle.eit.specs.declared.event.Event.{Event}
-use Rattle.eit.specs.Format.{eventHead, EventFields, event, events}
+use Rattle.eit.specs.declared.table.Table.{Table}
+use Rattle.eit.specs.Format.{eventHead, headOf, EventFields, EitFields}
 
+-- ---- an event that begins at a
 -- the sort of a text that stands at a part
 unfoldable pub titleFor : text .Val → Part → Title
 unfolding text structure
 titleFor none p = None
-titleFor (some (u, [])) p = NoStrings
-titleFor (some (u, x ∷ xs)) p = Text p
+titleFor (some []) p = NoStrings
+titleFor (some (x ∷ xs)) p = Text p
 
 -- where the title stands: after the head and a length of one byte
 abbrev pub titlePlace : ℕ → EventFields → Part
@@ -32,8 +36,8 @@ descriptorsPlace a e = record {
 }
 
 -- the event
-abbrev pub answerFor : ℕ → EventFields → Event
-answerFor a e = record {
+abbrev pub eventFor : ℕ → EventFields → Event
+eventFor a e = record {
   «event_id» = e .head .id;
   «start_time» = e .head .start;
   «etm_location» = e .head .etm;
@@ -42,12 +46,20 @@ answerFor a e = record {
   descriptors = descriptorsPlace a e;
 }
 
--- the event's row
+-- its row
 abbrev pub rowFor : ℕ → EventFields → List ℕ
 rowFor a e =
     (e .head .id ∷ e .head .start ∷ e .head .etm ∷ e .head .seconds ∷ []) ++ (partRow (titlePlace a e) ++ partRow (descriptorsPlace a e))
 
--- the events of a body
-unfoldable pub eventsOf : events .Val → List EventFields
-unfolding events event
-eventsOf v = v .1
+-- its reserved bits are ones
+abbrev pub OnesEvent : EventFields → Type 0
+OnesEvent e = Ones eventHead (headOf (e .head)) × (e .r ≡ 15)
+
+-- ---- the table
+-- its own fields
+abbrev pub fieldsFor : ℕ → EitFields → Table
+fieldsFor extension b = record { source = extension; count = length (b .events) }
+
+-- all reserved bits are ones
+abbrev pub OnesEit : EitFields → Type 0
+OnesEit b = All OnesEvent (b .events)

@@ -6,6 +6,7 @@ mod numbers;
 mod search;
 mod table;
 mod walk;
+mod write;
 
 pub use ask::advisory_text_at;
 pub use ask::descriptor_at;
@@ -26,3 +27,9 @@ pub use table::fields_at;
 pub use table::first;
 pub use walk::body;
 pub use walk::past;
+pub use write::events_size;
+pub use write::put_body;
+pub use write::put_event;
+pub use write::put_events;
+pub use write::rows_fit;
+pub use write::rows_sound;

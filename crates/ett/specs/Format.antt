@@ -11,15 +11,22 @@ use Rattle.strings.specs.Strings.{structure}
 abbrev pub etmHead : List Field
 etmHead = bits 32 ∷ []
 
--- those; a text that is not nothing and fills the rest
-pub record EttFields : Type 0 where
+-- that; a text that fills the rest. What it is, is told by its format: a text that is not nothing, where an ETT is read; any bytes,
+-- where they are given to be written
+pub record EttOf (T : Type 0) : Type 0 where
   pub etm : ℕ
-  pub text : structure .Val
+  pub text : T
+
+abbrev pub ettOf : Filling One → Filling One
+ettOf t =
+    underAll (before (named etmHead 4 refl) t) {Y = EttOf (t .Val)} (λ e. ((e .etm, record {}), e .text))
+    (λ x. record { etm = x .0 .0; text = x .1 }) (λ x. refl) (λ y. refl)
+
+abbrev pub EttFields : Type 0
+EttFields = EttOf (structure .Val)
 
 abbrev pub ettFormat : Filling One
-ettFormat =
-    underAll (before (named etmHead 4 refl) (exact structure)) {Y = EttFields}
-    (λ e. ((e .etm, record {}), e .text)) (λ x. record { etm = x .0 .0; text = x .1 }) (λ x. refl) (λ y. refl)
+ettFormat = ettOf (exact structure)
 
 unfoldable pub ett : Filling One
 ett = ettFormat

@@ -2,7 +2,7 @@
 use Prim.Native.Nat.{ℕ}
 use mathlib.Core.Path.{refl}
 use mathlib.Core.List.{List, [], _∷_}
-use Rattle.format.specs.Formats.{One, Format, Filling, seq, exact, under}
+use Rattle.format.specs.Formats.{One, Format, Filling, seq, exact, under, underAll}
 use Rattle.format.specs.Values.{Field, bits, reserved, Vals}
 use Rattle.format.specs.Named.{named}
 use Rattle.format.specs.Told.{counted16, sized12}
@@ -48,5 +48,17 @@ unfoldable pub tables : Format One
 tables = counted16 defined
 
 -- the tables; r 4, descriptors_length 12, descriptors
+pub record MgtFields : Type 0 where
+  pub tables : List DefinedFields
+  pub r : ℕ
+  pub descs : descriptors noTag .Val
+
+abbrev pub mgtFormat : Filling One
+mgtFormat =
+    underAll (exact (seq (counted16 definedFormat) (sized12 (descriptors noTag)))) {Y = MgtFields}
+    (λ b. ((record {}, b .tables), ((b .r, record {}), b .descs)))
+    (λ x. record { tables = x .0 .1; r = x .1 .0 .0; descs = x .1 .1 })
+    (λ x. refl) (λ y. refl)
+
 unfoldable pub mgt : Filling One
 mgt = exact (seq tables (list12 noTag))

@@ -57,7 +57,7 @@ module _ (s : List ℕ) (end a b : ℕ) (w : walks value s end a ≡ To b) where
 module _ (s : List ℕ) (end d b : ℕ) (w : walks dimension s end d ≡ To b) where
   parts : (c : ℕ) × ((walks sizedText s end d ≡ To c)
       × (then (fieldsTo (8 ∷ []) c end) (λ x. some-of 1 value .walk (byteAt s (x - 1) % 16) s end x) ≡ To b))
-  unfolding dimension sizedText
+  unfolding dimension value sizedText
   parts =
       let p = then-inv _ _ b w in
       (p .0, (p .1 .0, ap (λ v. then v (λ x. some-of 1 value .walk (byteAt s (x - 1) % 16) s end x)) (sym (merge 4 4 [] (p .0) end (omega arith))) ∙ p .1 .1))

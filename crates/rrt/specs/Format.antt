@@ -2,11 +2,11 @@
 use Prim.Native.Nat.{ℕ}
 use mathlib.Core.Path.{refl}
 use mathlib.Core.List.{List, [], _∷_}
-use Rattle.format.specs.Formats.{One, Format, Filling, seq, exact, under}
+use Rattle.format.specs.Formats.{One, Format, Filling, seq, exact, under, underAll}
 use Rattle.format.specs.Values.{Field, bits, reserved}
-use Rattle.format.specs.Told.{sized8, fewNotNone, notNone}
+use Rattle.format.specs.Told.{sized8, sized10, fewNotNone, notNone}
 use Rattle.strings.specs.Strings.{text, sizedText}
-use Rattle.descriptor.specs.Descriptors.{list10, noTag}
+use Rattle.descriptor.specs.Descriptors.{descriptors, list10, noTag}
 
 -- a value's short text and long text, each with a length of 8 bits
 pub record ValueFields : Type 0 where
@@ -30,11 +30,11 @@ pub record DimensionFields : Type 0 where
   pub name : text .Val
   pub r : ℕ
   pub scale : ℕ
-  pub values : List (value .Val)
+  pub values : List ValueFields
 
 abbrev pub dimensionFormat : Format One
 dimensionFormat =
-    under (seq (sized8 text) (fewNotNone scaleHead 4 refl value)) {Y = DimensionFields}
+    under (seq (sized8 text) (fewNotNone scaleHead 4 refl valueFormat)) {Y = DimensionFields}
     (λ d. ((record {}, d .name), ((d .r, (d .scale, record {})), d .values)))
     (λ x. record { name = x .0 .1; r = x .1 .0 .0; scale = x .1 .0 .1 .0; values = x .1 .1 })
     (λ x. refl) (λ y. refl)
@@ -51,5 +51,18 @@ unfoldable pub rest : Format One
 rest = seq dimensions (list10 noTag)
 
 -- the region name with a length of 8 bits; the rest
+pub record RrtFields : Type 0 where
+  pub name : text .Val
+  pub dimensions : List DimensionFields
+  pub r : ℕ
+  pub descs : descriptors noTag .Val
+
+abbrev pub rrtFormat : Filling One
+rrtFormat =
+    underAll (exact (seq (sized8 text) (seq (notNone dimensionFormat) (sized10 (descriptors noTag))))) {Y = RrtFields}
+    (λ b. ((record {}, b .name), ((record {}, b .dimensions), ((b .r, record {}), b .descs))))
+    (λ x. record { name = x .0 .1; dimensions = x .1 .0 .1; r = x .1 .1 .0 .0; descs = x .1 .1 .1 })
+    (λ x. refl) (λ y. refl)
+
 unfoldable pub rrt : Filling One
 rrt = exact (seq sizedText rest)

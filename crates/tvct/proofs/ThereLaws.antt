@@ -1,41 +1,56 @@
--- Where a value of the format lies, what is read is that value.
+-- The tie of what is read to the format: where an encoding lies, what is answered is what it is the encoding of.
 use Prim.Native.Nat.{ℕ, _+_}
-use mathlib.Core.Path.{_≡_, refl, sym}
+use mathlib.Core.Path.{_≡_, refl}
 use mathlib.Core.List.{List}
-use lib.ListN.{length}
+use native.Mathlib.Omega.{arith}
+use lib.ListN.{length, length-append}
 use Rattle.format.specs.Lawful.{Lies, Bytes, encs}
 use Rattle.format.specs.Laws.OfBytes.{lies-at, lies-split}
-use Rattle.format.specs.Formats.{One, Format, seq, exact}
+use Rattle.format.specs.Laws.OfValues.{bytes-length}
+use Rattle.format.specs.Formats.{walksAll}
+use Rattle.format.specs.Values.{bytesOf}
 use Rattle.format.specs.Told.{counted8, sized10}
 use Rattle.format.proofs.SizedLaws.{counted8-there}
+use Rattle.format.proofs.ListedLaws.{Stand}
 use Rattle.descriptor.specs.Descriptors.{descriptors, list10, noTag}
 use Rattle.descriptor.proofs.ListLaws.{list10-there}
-use Rattle.channel.specs.Format.{channel}
-use Rattle.tvct.specs.Format.{channels, tvct}
+use Rattle.channel.specs.Format.{channelFormat, channel}
+use Rattle.tvct.specs.Format.{channels, TvctFields, tvctFormat, tvct}
 use Rattle.tvct.specs.Fields.{countAt, firstAt, fieldsAt}
+use Rattle.tvct.specs.Values.{channelsEnd, fieldsFor}
 
-pub count-there : (s : List ℕ) → Bytes s → (at : ℕ) (xs : List (channel .Val)) → counted8 channel .Ok (record {}) (record {}, xs)
-    → Lies (counted8 channel .enc (record {}, xs)) s at → (countAt s at ≡ length xs) × Lies (encs (channel .enc) xs) s (firstAt at)
-count-there s z at = counted8-there s z at channel
+-- the code's promises name the body without the names of its values; its walk is the same
+pub same-walk : (s : List ℕ) (end at : ℕ) → walksAll tvct s end at ≡ walksAll tvctFormat s end at
+unfolding tvct channels channel list10
+same-walk s end at = refl
 
--- the body, of which the channels are told by their count and the descriptors by their length
-abbrev pub parts : Format One
-parts = seq (counted8 channel) (sized10 (descriptors noTag))
+module _ (s : List ℕ) (z : Bytes s) (at end : ℕ) (b : TvctFields) (o : tvctFormat .Ok (record {}) b) (l : Lies (tvctFormat .enc b) s at)
+    (whole : end ≡ at + length (tvctFormat .enc b)) where
+  -- the channels with their count, and the table's own descriptors with their length
+  abbrev listed : List ℕ
+  listed = counted8 channelFormat .enc (record {}, b .channels)
 
-pub same-body : tvct ≡ exact parts
-unfolding tvct channels list10
-same-body = refl
+  abbrev own : List ℕ
+  own = sized10 (descriptors noTag) .enc ((b .r, record {}), b .descs)
 
--- the table's own fields: b is where the channels end
-pub fields-there : (s : List ℕ) → Bytes s → (extension at b : ℕ) (x : parts .Val) → parts .Ok (record {}) x → Lies (parts .enc x) s at
-    → b ≡ at + length (counted8 channel .enc (x .0))
-    → (fieldsAt s extension at b ≡ record {
-      tsid = extension;
-      count = length (x .0 .1);
-      descriptors = record { start = b + 2; length = length (descriptors noTag .enc (x .1 .1)) };
-    }) × Lies (descriptors noTag .enc (x .1 .1)) s (b + 2)
-fields-there s z extension at b x o l e =
-    let i = lies-split (counted8 channel .enc (x .0)) _ s at l in
-    let c = count-there s z at (x .0 .1) (o .0) (i .0) .0 in
-    let d = list10-there noTag s b z (x .1 .0 .0) (x .1 .1) (o .1) (lies-at _ s _ _ (sym e) (i .1)) in
-    ((λ i. record { tsid = extension; count = c i; descriptors = d .0 i }), d .1)
+  listed-length : at + length listed ≡ channelsEnd at b
+  listed-length =
+      let n = length-append (bytesOf 1 (0 + length (b .channels))) (encs (channelFormat .enc) (b .channels)) in
+      let k = bytes-length 1 (0 + length (b .channels)) in
+      omega arith
+
+  listed-and-own : Lies listed s at × Lies own s (channelsEnd at b)
+  listed-and-own = let i = lies-split listed own s at l in (i .0, lies-at own s _ _ listed-length (i .1))
+
+  pub entries-there : (countAt s at ≡ length (b .channels)) × Stand channelFormat s end (firstAt at) (b .channels)
+  entries-there =
+      let t = counted8-there s z at channelFormat (b .channels) (o .0) (listed-and-own .0) in
+      let n = length-append listed own in
+      let k = listed-length in
+      (t .0, record { good = o .0 .1 .1 .1; lies = t .1; inside = omega arith })
+
+  pub fields-there : (extension : ℕ) → fieldsAt s extension at (channelsEnd at b) ≡ fieldsFor extension at b
+  fields-there extension =
+      let c = entries-there .0 in
+      let d = list10-there noTag s (channelsEnd at b) z (b .r) (b .descs) (o .1) (listed-and-own .1) .0 in
+      λ i. record { tsid = extension; count = c i; descriptors = d i }

@@ -3,7 +3,7 @@ use mathlib.Core.Path.{sym, _∙_}
 use mathlib.Core.List.{[]}
 use native.Mathlib.Omega.{arith}
 use Rattle.format.proofs.FieldLaws.{skip-field, merge}
-use Rattle.rrt.specs.Format.{dimension}
+use Rattle.rrt.specs.Format.{value, dimension}
 use Rattle.strings.specs.Strings.{sizedText}
 use Rattle.bytes_at.proofs.WalkLaws.{seq-bad, seq-to}
 use borrow.Author.Needs.{needs}
@@ -20,7 +20,7 @@ enum-told : tie.Need-enum-told
 enum-told c = search needs
 
 returns : tie.Need-returns
-unfolding dimension sizedText
+unfolding dimension value sizedText
 returns c = seq-bad _ (c .before .before .sized-text .ensures) (c .enum-told .given .1)
 
 skip-requires : tie.Need-skip-requires
@@ -33,7 +33,7 @@ enum-told-2 : tie.Need-enum-told-2
 enum-told-2 c = search needs
 
 returns-2 : tie.Need-returns-2
-unfolding dimension sizedText
+unfolding dimension value sizedText
 returns-2 c = let k = c .before .before in
     let w = k .before .before in
     seq-to _ (w .before .before .sized-text .ensures) (w .w .given .1)
@@ -46,7 +46,7 @@ some-values-requires : tie.Need-some-values-requires
 some-values-requires c κs = search needs
 
 returns-3 : tie.Need-returns-3
-unfolding dimension sizedText
+unfolding dimension value sizedText
 returns-3 c = let v = c .before .before .before in
     let k = v .before .before in
     let w = k .before .before in

@@ -1,0 +1,27 @@
+-- What is answered for a value of the format, where its encoding lies at `at`.
+use Prim.Native.Nat.{ℕ, _+_}
+use mathlib.Core.Path.{_≡_}
+use lib.ListN.{length}
+use Rattle.format.specs.Lawful.{All, encs}
+use Rattle.descriptor.specs.Descriptors.{descriptors, noTag}
+use Rattle.channel.specs.Format.{channelFormat}
+use Rattle.channel.specs.Values.{OnesChannel}
+use Rattle.tvct.specs.declared.table.Table.{Table}
+use Rattle.tvct.specs.Format.{TvctFields}
+use Rattle.tvct.specs.Fields.{firstAt}
+
+-- where all channels are passed
+abbrev pub channelsEnd : ℕ → TvctFields → ℕ
+channelsEnd at b = firstAt at + length (encs (channelFormat .enc) (b .channels))
+
+-- the table's own fields: the descriptors stand behind the channels, after a length of two bytes
+abbrev pub fieldsFor : ℕ → ℕ → TvctFields → Table
+fieldsFor extension at b = record {
+  tsid = extension;
+  count = length (b .channels);
+  descriptors = record { start = channelsEnd at b + 2; length = length (descriptors noTag .enc (b .descs)) };
+}
+
+-- all reserved bits are ones
+abbrev pub OnesTvct : TvctFields → Type 0
+OnesTvct b = All OnesChannel (b .channels) × (b .r ≡ 63)
