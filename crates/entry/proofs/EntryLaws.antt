@@ -10,6 +10,7 @@ use Rattle.bytes_at.specs.Walks.{many, Stands}
 use Rattle.bytes_at.proofs.WalkLaws.{many-in, reached, stands-at}
 use Rattle.logic.proofs.ChoiceLaws.{lt-yes}
 use Rattle.refusal.specs.Outcomes.{refused, result, after}
+use Rattle.refusal.proofs.OutcomeLaws.{not-both, after-is}
 use Rattle.kind.specs.Kinds.{onlyOf}
 use Rattle.format.specs.Formats.{walks}
 use Rattle.mgt.proofs.DefinedLaws.{defined-forward}
@@ -23,7 +24,7 @@ use Rattle.section.specs.declared.header.Header.{Header}
 use Rattle.section.specs.Bodies.{bodyOf}
 use Rattle.section.specs.Sections.{bodyWalk, sectionBy}
 use Rattle.section.proofs.KindLaws.{start-fits}
-use Rattle.section.proofs.PassLaws.{no-result, is-less, after-is}
+use Rattle.section.proofs.PassLaws.{is-less}
 use Rattle.section.proofs.SectionLaws.{section-sound}
 use Rattle.entry.specs.declared.Entry.{Entry}
 use Rattle.entry.specs.declared.Entry.the-variants.{Table, Channel, Dimension, Event}
@@ -83,7 +84,7 @@ module _ (e : Entry) (s : List ℕ) (h : Header) (judged : sectionBy (onlyOf (ta
 
 pub standing-is : (w : Walk) (a : ℕ) → standing w ≡ result a → w ≡ To a
 standing-is (To b) a e = let q : b ≡ a = cc in ap To q
-standing-is (Bad x) a e = no-result 9 a e
+standing-is (Bad x) a e = not-both 9 a e
 
 -- an entry that was found stands, and ends before the checksum
 pub entry-stands : (e : Entry) (s : List ℕ) (i a : ℕ) → spotOf e s i ≡ result a → Stands (walks (formatOf e) s (length s - 4) a)

@@ -1,2 +1,4 @@
 pub mod EntryLaws
 pub mod ValueLaws
+pub mod OnceLaws
+pub mod RecordLaws

@@ -1,3 +1,9 @@
 pub mod KindLaws
 pub mod PassLaws
 pub mod SectionLaws
+pub mod HeaderLaws
+pub mod EncodingLaws
+pub mod AcceptedLaws
+pub mod AnyKindLaws
+pub mod OnceLaws
+pub mod WritingLaws

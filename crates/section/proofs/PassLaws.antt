@@ -4,20 +4,18 @@ use mathlib.Core.Path.{_≡_, refl}
 use mathlib.Core.Bool.{Bool, true, false}
 use native.Mathlib.Omega.{arith}
 use lib.Dec.{eqb, ltb}
-use borrow.Author.Tests.{ltb-true, ltb-false, eqb-true}
+use borrow.Author.Tests.{ltb-true, ltb-false, eqb-true, eqb-false}
 use Rattle.logic.specs.Choices.{pick, ifLt, ifEq}
-use Rattle.refusal.specs.Outcomes.{Outcome, refused, result, after}
-
-pub no-result : {A B : Type 0} (n : ℕ) (a : A) → refused n ≡ result a → B
-no-result n a e = let z : _≡_ {A = ℕ} 0 1 = cc in absurd (omega arith)
+use Rattle.refusal.specs.Outcomes.{Outcome, refused, result}
+use Rattle.refusal.proofs.OutcomeLaws.{not-both}
 
 passed-by : {A : Type 0} (t : Bool) (n : ℕ) (b : Outcome A) (a : A) → pick t (refused n) b ≡ result a → (t ≡ false) × (b ≡ result a)
-passed-by true n b a e = no-result n a e
+passed-by true n b a e = not-both n a e
 passed-by false n b a e = (refl, e)
 
 held-by : {A : Type 0} (t : Bool) (n : ℕ) (b : Outcome A) (a : A) → pick t b (refused n) ≡ result a → (t ≡ true) × (b ≡ result a)
 held-by true n b a e = (refl, e)
-held-by false n b a e = no-result n a e
+held-by false n b a e = not-both n a e
 
 module _ {A : Type 0} (x y n : ℕ) (b : Outcome A) (a : A) where
   pub not-less : ifLt x y (refused n) b ≡ result a → (y ≤ x) × (b ≡ result a)
@@ -28,16 +26,10 @@ module _ {A : Type 0} (x y n : ℕ) (b : Outcome A) (a : A) where
   unfolding ifEq
   equal e = let p = held-by (eqb x y) n b a e in (eqb-true x y (p .0), p .1)
 
-  pub not-equal : ifEq x y (refused n) b ≡ result a → b ≡ result a
+  pub not-equal : ifEq x y (refused n) b ≡ result a → (x ≡ y → ⊥) × (b ≡ result a)
   unfolding ifEq
-  not-equal e = passed-by (eqb x y) n b a e .1
+  not-equal e = let p = passed-by (eqb x y) n b a e in (eqb-false x y (p .0), p .1)
 
   pub is-less : ifLt x y b (refused n) ≡ result a → (x < y) × (b ≡ result a)
   unfolding ifLt
   is-less e = let p = held-by (ltb x y) n b a e in (ltb-true x y (p .0), p .1)
-
--- what comes after another call, and is not refused: nor was that one
-pub after-is : {A B : Type 0} (o : Outcome A) (k : A → Outcome B) (b : B) → after o k ≡ result b → (a : A) × ((o ≡ result a) × (k a ≡ result b))
-unfolding after
-after-is (refused n) k b e = no-result n b e
-after-is (result a) k b e = (a, (refl, e))

@@ -5,28 +5,36 @@ use mathlib.Core.List.{List}
 use lib.ListN.{length}
 use lib.Dec.{eqb}
 use mathlib.Core.Bool.{Bool, true, false}
+use borrow.Author.Tests.{eqb-true}
 use Rattle.logic.specs.Choices.{pick, ifEq}
+use Rattle.logic.proofs.ChoiceLaws.{lt-no, eq-yes, eq-no}
+use Rattle.bytes_at.specs.Fields.{byteAt}
 use Rattle.bytes_at.specs.declared.Walk.{Walk}
 use Rattle.bytes_at.specs.declared.Walk.the-variants.{To, Bad}
 use Rattle.bytes_at.specs.Walks.{Stands}
 use Rattle.refusal.specs.Outcomes.{Outcome, refused, result}
+use Rattle.refusal.proofs.OutcomeLaws.{not-both}
 use Rattle.checksum.specs.Register.{register}
 use Rattle.kind.specs.declared.Kind.{Kind}
 use Rattle.kind.specs.declared.Found.{Found}
 use Rattle.kind.specs.declared.Found.the-variants.{Is, Nothing}
 use Rattle.kind.specs.Kinds.{limitsOf, tableIdOf, kindOf, onlyOf}
 use Rattle.section.specs.declared.header.Header.{Header}
-use Rattle.section.specs.Headers.{tableId, sectionLength, sectionNumber, lastSectionNumber, headerFields, headerBy, ofKind, lengthTests, checksumTest, numberTests}
+use Rattle.section.specs.Headers.{tableId, syntaxIndicator, privateIndicator, sectionLength, sectionNumber, lastSectionNumber, headerFields, headerBy, ofKind, lengthTests, checksumTest, numberTests}
 use Rattle.section.specs.Sections.{bodyWalk, walked, bodyTest, withBody, verdictBy, plainly, sectionBy}
-use Rattle.section.proofs.PassLaws.{no-result, not-less, equal, not-equal}
+use Rattle.section.proofs.PassLaws.{not-less, equal, not-equal}
 
 -- what the header's tests have shown of a section of kind k
 pub record Passed (k : Kind) (s : List ℕ) (h : Header) : Type 0 where
+  pub syntax-one : syntaxIndicator s ≡ 0 → ⊥
+  pub private-one : privateIndicator s ≡ 0 → ⊥
   pub smallest : limitsOf k .smallest ≤ sectionLength s
   pub largest : sectionLength s ≤ limitsOf k .largest
   pub size : length s ≡ sectionLength s + 3
   pub register-zero : register s ≡ 0
+  pub byte-zero : byteAt s (limitsOf k .«zero_byte») ≡ 0
   pub number-last : sectionNumber s ≤ lastSectionNumber s
+  pub last-limit : lastSectionNumber s ≤ limitsOf k .last
   pub fields : h ≡ headerFields k s
 
 same : {A : Type 0} (a b : A) → result a ≡ result b → b ≡ a
@@ -35,28 +43,60 @@ same a b e = cc
 of-kind : (k : Kind) (s : List ℕ) (h : Header) → ofKind s (Is k) ≡ result h → Passed k s h
 unfolding ofKind lengthTests checksumTest numberTests
 of-kind k s h e =
-    let e3 = not-equal _ _ _ _ _ (not-equal _ _ _ _ _ e) in
-    let e4 = not-less _ _ _ _ _ e3 in
-    let e5 = not-less _ _ _ _ _ (e4 .1) in
+    let e1 = not-equal _ _ _ _ _ e in
+    let e2 = not-equal _ _ _ _ _ (e1 .1) in
+    let e3 = not-less _ _ _ _ _ (e2 .1) in
+    let e4 = not-less _ _ _ _ _ (e3 .1) in
+    let e5 = equal _ _ _ _ _ (e4 .1) in
     let e6 = equal _ _ _ _ _ (e5 .1) in
     let e7 = equal _ _ _ _ _ (e6 .1) in
-    let e8 = equal _ _ _ _ _ (e7 .1) in
+    let e8 = not-less _ _ _ _ _ (e7 .1) in
     let e9 = not-less _ _ _ _ _ (e8 .1) in
-    let e10 = not-less _ _ _ _ _ (e9 .1) in
-    record { smallest = e4 .0; largest = e5 .0; size = e6 .0; register-zero = e7 .0; number-last = e9 .0; fields = same _ _ (e10 .1) }
+    record {
+      syntax-one = e1 .0;
+      private-one = e2 .0;
+      smallest = e3 .0;
+      largest = e4 .0;
+      size = e5 .0;
+      register-zero = e6 .0;
+      byte-zero = e7 .0;
+      number-last = e8 .0;
+      last-limit = e9 .0;
+      fields = same _ _ (e9 .1);
+    }
 
-only-kind : (k : Kind) (s : List ℕ) (h : Header) (t : Bool) → ofKind s (pick t (Is k) Nothing) ≡ result h → ofKind s (Is k) ≡ result h
+-- and what they show is all that they ask for
+pub of-kind-passes : (k : Kind) (s : List ℕ) (h : Header) → Passed k s h → result h ≡ ofKind s (Is k)
+unfolding ofKind lengthTests checksumTest numberTests
+of-kind-passes k s h p =
+    let e9 = lt-no _ _ _ _ (p .last-limit) (ap result (p .fields)) in
+    let e7 = eq-yes _ _ _ _ (p .byte-zero) (lt-no _ _ _ _ (p .number-last) e9) in
+    let e5 = eq-yes _ _ _ _ (p .size) (eq-yes _ _ _ _ (p .register-zero) e7) in
+    let e3 = lt-no _ _ _ _ (p .smallest) (lt-no _ _ _ _ (p .largest) e5) in
+    eq-no _ _ _ _ (p .syntax-one) (eq-no _ _ _ _ (p .private-one) e3)
+
+only-kind : (k : Kind) (s : List ℕ) (h : Header) (t : Bool) → ofKind s (pick t (Is k) Nothing) ≡ result h
+    → (t ≡ true) × (ofKind s (Is k) ≡ result h)
 unfolding ofKind
-only-kind k s h true e = e
-only-kind k s h false e = no-result 2 h e
+only-kind k s h true e = (refl, e)
+only-kind k s h false e = not-both 2 h e
 
-pub header-passed : (k : Kind) (s : List ℕ) (h : Header) → headerBy (onlyOf k) s ≡ result h → Passed k s h
+pub header-passed : (k : Kind) (s : List ℕ) (h : Header) → headerBy (onlyOf k) s ≡ result h → (tableId s ≡ tableIdOf k) × Passed k s h
 unfolding headerBy onlyOf ifEq
-header-passed k s h e = of-kind k s h (only-kind k s h (eqb (tableId s) (tableIdOf k)) (not-less _ _ _ _ _ e .1))
+header-passed k s h e =
+    let p = only-kind k s h (eqb (tableId s) (tableIdOf k)) (not-less _ _ _ _ _ e .1) in
+    (eqb-true _ _ (p .0), of-kind k s h (p .1))
+
+pub header-passes : (k : Kind) (s : List ℕ) (h : Header) → 3 ≤ length s → tableId s ≡ tableIdOf k → Passed k s h
+    → headerBy (onlyOf k) s ≡ result h
+unfolding headerBy onlyOf
+header-passes k s h l i p =
+    let found = eq-yes (tableId s) (tableIdOf k) (Is k) Nothing {r = Is k} i refl in
+    sym (lt-no _ _ _ _ l (of-kind-passes k s h p ∙ ap (ofKind s) found))
 
 any-kind : (f : Found) (s : List ℕ) (h : Header) → ofKind s f ≡ result h → (k : Kind) × Passed k s h
 unfolding ofKind
-any-kind Nothing s h e = no-result 2 h e
+any-kind Nothing s h e = not-both 2 h e
 any-kind (Is k) s h e = (k, of-kind k s h e)
 
 -- the same of a call that reads every kind
@@ -66,12 +106,12 @@ any-header-passed s h e = any-kind (kindOf (tableId s)) s h (not-less _ _ _ _ _ 
 
 walk-stood : (w : Walk) (g h : Header) → plainly (walked w g) ≡ result h → ((e : ℕ) × (w ≡ To e)) × (h ≡ g)
 walk-stood (To e) g h p = ((e, refl), same g h p)
-walk-stood (Bad x) g h p = no-result 9 h p
+walk-stood (Bad x) g h p = not-both 9 h p
 
 with-body : (o : Outcome Header) (s : List ℕ) (h : Header) → plainly (withBody o s) ≡ result h
     → (o ≡ result h) × ((e : ℕ) × (bodyWalk (h .kind) s ≡ To e))
 unfolding withBody bodyTest
-with-body (refused n) s h p = no-result n h p
+with-body (refused n) s h p = not-both n h p
 with-body (result g) s h p =
     let w = walk-stood (bodyWalk (g .kind) s) g h p in
     (ap result (sym (w .1)), rw (w .1) (w .0))
@@ -92,5 +132,5 @@ pub section-sound : (k : Kind) (s : List ℕ) (h : Header) → sectionBy (onlyOf
 unfolding sectionBy verdictBy
 section-sound k s h p =
     let w = with-body (headerBy (onlyOf k) s) s h p in
-    let q = header-passed k s h (w .0) in
+    let q = header-passed k s h (w .0) .1 in
     (q, (w .1 .0, sym (ap (λ (g : Header). bodyWalk (g .kind) s) (q .fields)) ∙ w .1 .1))

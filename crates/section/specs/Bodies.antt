@@ -2,11 +2,11 @@
 use Rattle.kind.specs.declared.Kind.{Kind}
 use Rattle.kind.specs.declared.Kind.the-variants.{Mgt, Tvct, Rrt, Eit, Ett}
 use Rattle.format.specs.Formats.{One, Filling}
-use Rattle.mgt.specs.Format.{mgt}
-use Rattle.tvct.specs.Format.{tvct}
-use Rattle.rrt.specs.Format.{rrt}
-use Rattle.eit.specs.Format.{eit}
-use Rattle.ett.specs.Format.{ett}
+use Rattle.mgt.specs.Format.{mgtFormat, mgt}
+use Rattle.tvct.specs.Format.{tvctFormat, tvct}
+use Rattle.rrt.specs.Format.{rrtFormat, rrt}
+use Rattle.eit.specs.Format.{eitFormat, eit}
+use Rattle.ett.specs.Format.{ettFormat, ett}
 
 unfoldable pub bodyOf : Kind → Filling One
 bodyOf Mgt = mgt
@@ -14,3 +14,11 @@ bodyOf Tvct = tvct
 bodyOf Rrt = rrt
 bodyOf Eit = eit
 bodyOf Ett = ett
+
+-- the same, with the body's record as its values
+abbrev pub bodyFormat : Kind → Filling One
+bodyFormat Mgt = mgtFormat
+bodyFormat Tvct = tvctFormat
+bodyFormat Rrt = rrtFormat
+bodyFormat Eit = eitFormat
+bodyFormat Ett = ettFormat

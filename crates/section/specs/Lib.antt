@@ -2,3 +2,5 @@
 pub mod Headers
 pub mod Bodies
 pub mod Sections
+pub mod Encoding
+pub mod Writing

@@ -1,3 +1,4 @@
 pub mod PlaceLaws
 pub mod AdvisoryLaws
 pub mod SoundLaws
+pub mod OnceLaws

@@ -16,6 +16,7 @@ use Rattle.bytes_at.specs.declared.Walk.the-variants.{To}
 use Rattle.bytes_at.specs.Fields.{byteAt}
 use Rattle.bytes_at.specs.Walks.{Stands}
 use Rattle.refusal.specs.Outcomes.{Outcome, refused, result, after}
+use Rattle.refusal.proofs.OutcomeLaws.{not-both, after-is, after-refused, same-result}
 use Rattle.kind.specs.declared.Kind.the-variants.{Rrt, Eit, Ett}
 use Rattle.kind.specs.Kinds.{limitsOf, onlyOf}
 use Rattle.format.specs.Lawful.{Bytes}
@@ -37,7 +38,6 @@ use Rattle.ett.proofs.TextLaws.{body-text}
 use Rattle.section.specs.declared.header.Header.{Header}
 use Rattle.section.specs.Bodies.{bodyOf}
 use Rattle.section.specs.Sections.{sectionBy}
-use Rattle.section.proofs.PassLaws.{no-result, after-is}
 use Rattle.section.proofs.SectionLaws.{section-sound}
 use Rattle.entry.specs.declared.Entry.{Entry}
 use Rattle.entry.specs.declared.Entry.the-variants.{Event, Dimension}
@@ -45,7 +45,6 @@ use Rattle.entry.specs.Entries.{tableOf, formatOf, countOf, spotIn, spotOf, val
 use Rattle.entry.proofs.EntryLaws.{entry-found, entry-stands}
 use Rattle.entry.proofs.ValueLaws.{value-found, value-stands}
 use Rattle.text.specs.Strings.{stringCount, stringAt, stringUnits, stringHeading}
-use Rattle.text.proofs.OutcomeLaws.{after-refused, same-result}
 use Rattle.text.proofs.SoundLaws.{Fair, units-fair, heading-there, none-there}
 use Rattle.section_text.specs.declared.field.Which.{Which}
 use Rattle.section_text.specs.declared.field.Which.the-variants.{Title, Advisory, Extended, RegionName, DimensionName, ShortText, LongText}
@@ -94,7 +93,7 @@ title-by s start n h = by (eqb n 0) (eqb n 1) (eqb (byteAt s start) 0)
     by false false v = h
 
 place-by : (s : List ℕ) (o : Option Place) (p : Part) → placeField o ≡ result p → SoundText s o → SoundField s p
-place-by s none p e g = no-result 13 p e
+place-by s none p e g = not-both 13 p e
 place-by s (some t) p e g = answered s p _ e g
 
 module _ (s : List ℕ) (h : Header) (judged : sectionBy (onlyOf Eit) s ≡ result h) (i : ℕ) (p : Part) where
@@ -179,7 +178,7 @@ nine-not : {A : Type 0} (o : Outcome A) (n : ℕ) → o ≡ refused n → (n ≡
 nine-not o n e h f = h cc
 
 result-not : {A : Type 0} (o : Outcome A) (a : A) → o ≡ result a → o ≡ refused 9 → ⊥
-result-not o a e f = no-result 9 a (sym f ∙ e)
+result-not o a e f = not-both 9 a (sym f ∙ e)
 
 -- what comes after a call is refused by 9: where the rest is not, the call is
 nine-first : {A B : Type 0} (o : Outcome A) (k : A → Outcome B) → ((a : A) → o ≡ result a → k a ≡ refused 9 → ⊥)

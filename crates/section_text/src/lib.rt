@@ -12,7 +12,8 @@ use text::Headed;
 ghost use mathlib.Core.Path.{_≡_};
 ghost use lib.ListN.{length};
 ghost use Rattle.text.specs.Answers.{numberOutcome, headingOutcome};
-ghost use Rattle.text.specs.Texts.{fitting, counted, outputAfter};
+ghost use Rattle.refusal.specs.Outputs.{counted, outputAfter};
+ghost use Rattle.text.specs.Texts.{fitting};
 ghost use Rattle.section_text.specs.Texts.{textCount, textHeading, textUnits};
 pub use field::Which;
 

@@ -3,3 +3,4 @@ pub mod EditLaws
 pub mod PlaceLaws
 pub mod JudgeLaws
 pub mod TakingLaws
+pub mod OnceLaws

@@ -1,7 +1,8 @@
 -- `string_text` meets its contract: where the text stands, then its bytes; a refusal leaves the output as it was.
 use mathlib.Core.Path.{refl}
 use Rattle.refusal.specs.Outcomes.{after}
-use Rattle.text.specs.Texts.{fitting, counted, outputAfter}
+use Rattle.refusal.specs.Outputs.{counted, outputAfter}
+use Rattle.text.specs.Texts.{fitting}
 use Rattle.section_text.specs.Texts.{textUnits}
 use borrow.Author.Needs.{needs}
 use Rattle.section_text.proofs.string_text.Statement.{statement}

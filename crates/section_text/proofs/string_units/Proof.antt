@@ -1,6 +1,6 @@
 -- `string_units` meets its contract: where the text stands, then its bytes.
 use Rattle.refusal.specs.Outcomes.{after}
-use Rattle.text.specs.Texts.{counted}
+use Rattle.refusal.specs.Outputs.{counted}
 use Rattle.section_text.specs.Texts.{textUnits}
 use borrow.Author.Needs.{needs}
 use Rattle.section_text.proofs.string_units.Statement.{statement}

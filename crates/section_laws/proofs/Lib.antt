@@ -1,0 +1,9 @@
+pub mod TableLaws
+pub mod QuestionLaws
+pub mod RowLaws
+pub mod AskedLaws
+pub mod TextLaws
+pub mod KeepLaws
+pub mod NineLaws
+pub mod SampleLaws
+pub mod UselessLaws

@@ -1,0 +1,5 @@
+-- The definitions, in reading order: what is told of a record, and the statements; Samples are records by which the statements are
+-- shown to have content.
+pub mod Told
+pub mod Accepted
+pub mod Samples

@@ -1,0 +1,97 @@
+-- Equal meanings are equal answers, and a refusal leaves the area as it was.
+use Prim.Native.Nat.{ℕ}
+use mathlib.Core.Path.{_≡_, refl, sym, ap, _∙_}
+use mathlib.Core.List.{List}
+use Rattle.refusal.specs.declared.Refusal.{Refusal}
+use Rattle.refusal.specs.Numbers.{numberOf}
+use Rattle.refusal.specs.Outcomes.{Outcome, refused, result}
+use Rattle.refusal.proofs.NumberLaws.{numbered, numbered-back}
+use Rattle.refusal.proofs.OutcomeLaws.{not-both, once-by}
+use Rattle.shelf.specs.declared.answers.Change.{Change}
+use Rattle.shelf.specs.declared.answers.Change.the-variants as changes
+use Rattle.shelf.specs.declared.answers.Progress.{Progress}
+use Rattle.shelf.specs.declared.answers.Progress.the-variants as progress
+use Rattle.shelf.specs.declared.answers.Kept.{Kept}
+use Rattle.shelf.specs.declared.answers.Kept.the-variants as kept
+use Rattle.shelf.specs.declared.answers.AfterChange.{AfterChange}
+use Rattle.shelf.specs.declared.answers.AfterStatus.{AfterStatus}
+use Rattle.shelf.specs.declared.answers.AfterFetch.{AfterFetch}
+use Rattle.shelf.specs.declared.delivery.Taking.{Taking}
+use Rattle.shelf.specs.declared.delivery.Taking.the-variants as taking
+use Rattle.shelf.specs.Answers.{Status, unheard, part, complete, Bytes, changeOutcome, statusOutcome, fetchOutcome, After, afterChange, afterStatus, afterFetch}
+use Rattle.shelf.specs.Delivery.{done, areaAfter, takingOutcome}
+
+change-told : Outcome (Unit {0}) → Change
+change-told (refused n) = changes.Refused (numbered n)
+change-told (result u) = changes.Done
+
+change-back : (x : Change) → change-told (changeOutcome x) ≡ x
+unfolding change-told
+change-back (changes.Refused k) = ap changes.Refused (numbered-back k)
+change-back changes.Done = refl
+
+pub change-once : (x y : Change) → changeOutcome x ≡ changeOutcome y → x ≡ y
+change-once = once-by changeOutcome change-told change-back
+
+status-told : Outcome Status → Progress
+status-told (refused n) = progress.Refused (numbered n)
+status-told (result unheard) = progress.NothingHeard
+status-told (result (part c n)) = progress.Part c n
+status-told (result (complete n)) = progress.Complete n
+
+status-back : (x : Progress) → status-told (statusOutcome x) ≡ x
+unfolding status-told
+status-back (progress.Refused k) = ap progress.Refused (numbered-back k)
+status-back progress.NothingHeard = refl
+status-back (progress.Part c n) = refl
+status-back (progress.Complete n) = refl
+
+pub status-once : (x y : Progress) → statusOutcome x ≡ statusOutcome y → x ≡ y
+status-once = once-by statusOutcome status-told status-back
+
+fetch-told : Outcome Bytes → Kept
+fetch-told (refused n) = kept.Refused (numbered n)
+fetch-told (result x) = kept.At (x .start) (x .length)
+
+fetch-back : (x : Kept) → fetch-told (fetchOutcome x) ≡ x
+unfolding fetch-told
+fetch-back (kept.Refused k) = ap kept.Refused (numbered-back k)
+fetch-back (kept.At a n) = refl
+
+pub fetch-once : (x y : Kept) → fetchOutcome x ≡ fetchOutcome y → x ≡ y
+fetch-once = once-by fetchOutcome fetch-told fetch-back
+
+taking-told : Outcome ℕ → Taking
+taking-told (refused n) = taking.Refused (numbered n)
+taking-told (result x) = taking.At x
+
+taking-back : (x : Taking) → taking-told (takingOutcome x) ≡ x
+unfolding taking-told
+taking-back (taking.Refused k) = ap taking.Refused (numbered-back k)
+taking-back (taking.At i) = refl
+
+pub taking-once : (x y : Taking) → takingOutcome x ≡ takingOutcome y → x ≡ y
+taking-once = once-by takingOutcome taking-told taking-back
+
+-- ---- an answer and a shelf
+pub after-change-once : (x y : AfterChange) → afterChange x ≡ afterChange y → x ≡ y
+after-change-once x y e =
+    let a = change-once (x .answer) (y .answer) (ap (λ (r : After (Unit {0})). r .outcome) e) in
+    λ i. record { answer = a i; shelf = e i .shelf }
+
+pub after-status-once : (x y : AfterStatus) → afterStatus x ≡ afterStatus y → x ≡ y
+after-status-once x y e =
+    let a = status-once (x .answer) (y .answer) (ap (λ (r : After Status). r .outcome) e) in
+    λ i. record { answer = a i; shelf = e i .shelf }
+
+pub after-fetch-once : (x y : AfterFetch) → afterFetch x ≡ afterFetch y → x ≡ y
+after-fetch-once x y e =
+    let a = fetch-once (x .answer) (y .answer) (ap (λ (r : After Bytes). r .outcome) e) in
+    λ i. record { answer = a i; shelf = e i .shelf }
+
+-- ---- the area of a delivery that is refused
+pub area-keeps : (area b : List ℕ) (o : Outcome ℕ) (x : Change) (k : Refusal) → changeOutcome x ≡ done o → x ≡ changes.Refused k
+    → areaAfter area b o ≡ area
+unfolding areaAfter
+area-keeps area b (refused n) x k e q = refl
+area-keeps area b (result i) x k e q = not-both (numberOf k) tt (sym (ap changeOutcome q) ∙ e)
