@@ -23,6 +23,7 @@ list:
 speed:
 	@bash bench/checksum.sh
 	@bash bench/judge.sh
+	@bash bench/writing.sh
 	@bash bench/titles.sh
 	@bash bench/shelf.sh
 	@bash bench/lister.sh

@@ -25,27 +25,6 @@ static void full_mgt(Section *s) {
     empty_descriptors(s, 2039);
 }
 
-static void smallest_events(Section *s) {
-    begin(s, "EIT, 255 events without title", 0xCB);
-    put(s, 255);
-    for (int i = 0; i < 255; i++)
-        event(s, 0, 0);
-    seal(s);
-}
-
-static void titled_events(Section *s) {
-    static const uint8_t advisory[] = {0x87, 6, 0xC1, 1, 1, 0, 0xF3, 0};
-    enum { EVENTS = 75 };
-    begin(s, "EIT, 75 events, title and advisory", 0xCB);
-    put(s, EVENTS);
-    for (int i = 0; i < EVENTS; i++) {
-        event(s, 26, sizeof advisory);
-        for (size_t k = 0; k < sizeof advisory; k++)
-            put(s, advisory[k]);
-    }
-    seal(s);
-}
-
 static void accepted(const Section *s) {
     unsigned k = bench_judge(s->bytes, s->n);
     if (k) {

@@ -25,7 +25,7 @@ listed_as() { # EXAMPLE
     timeout 10 sh tools/run.sh target/bin/lister < "$1.bin" | diff "$1.txt" -
 }
 
-for name in test_judging test_reading test_text test_shelf; do
+for name in test_judging test_reading test_text test_writing test_shelf; do
     compare "$name" python3 "tests/$name.py" --check
 done
 compare examples python3 examples/make.py --check

@@ -1,5 +1,6 @@
 // What the programs in bench/ measure, under C names.
 mod shelves;
+mod writers;
 
 use bytes_at::byte;
 use part::part_of;

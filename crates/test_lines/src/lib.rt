@@ -1,5 +1,7 @@
 // What the test programs share: how the next vector is read, and the words of which their lines are made.
 // tests/README.md describes both field by field.
+pub mod digest;
+
 use bytes_at::byte;
 use bytes_at::long;
 use bytes_at::word;

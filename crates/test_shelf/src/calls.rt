@@ -1,5 +1,4 @@
 // One call on a shelf, told by its name and its answer. The bytes have its arguments.
-use crate::digest;
 use bytes_at::byte;
 use bytes_at::word;
 use part::part_of;
@@ -9,6 +8,7 @@ use shelf::Progress;
 use shelf_state::Asked;
 use shelf_state::Shelf;
 use test_lines::Vector;
+use test_lines::digest::of_bytes;
 use test_lines::number;
 use test_lines::refused;
 use test_lines::say;
@@ -48,7 +48,7 @@ fn show_kept(answer: Kept, area: &[u8]) {
         Kept::At { start, length } => {
             number(start);
             number(length);
-            number(digest::of_bytes(part_of(area, start, length)));
+            number(of_bytes(part_of(area, start, length)));
         }
     }
 }

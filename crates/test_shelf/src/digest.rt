@@ -1,42 +1,14 @@
-// Digests: two sums, of the numbers and of the sums so far. Of bytes it is Adler-32. A checksum register would not do: it cannot
-// tell one sound section from another of its length.
+// The digest of a shelf's records and places.
 use shelf_state::Key;
 use shelf_state::Place;
 use shelf_state::Shelf;
 use shelf_state::Watch;
 use shelf_state::inner::wide;
 use shelf_state::inner::wide_word;
-use std::num::wrapping_add_u64;
-
-struct Sums {
-    numbers: u64,
-    sums: u64,
-}
-
-fn number(d: Sums, x: usize) -> Sums {
-    let n = wrapping_add_u64(d.numbers, x as u64);
-    Sums {
-        numbers: n,
-        sums: wrapping_add_u64(d.sums, n),
-    }
-}
-
-fn told(d: Sums) -> usize {
-    (d.sums % 65521 * 65536 + d.numbers % 65521) as usize
-}
-
-pub fn of_bytes(s: &[u8]) -> usize {
-    let mut d = Sums {
-        numbers: 1,
-        sums: 0,
-    };
-    let mut i = 0;
-    while i < s.len() {
-        d = number(d, wide(s[i]));
-        i += 1;
-    }
-    told(d)
-}
+use test_lines::digest::Sums;
+use test_lines::digest::none;
+use test_lines::digest::number;
+use test_lines::digest::told;
 
 fn flag(d: Sums, b: bool) -> Sums {
     number(d, if b { 1 } else { 0 })
@@ -96,9 +68,5 @@ fn places(d: Sums, s: Shelf) -> Sums {
 
 // The sizes, and the records and places that are in use.
 pub fn of_records(s: Shelf) -> usize {
-    let none = Sums {
-        numbers: 1,
-        sums: 0,
-    };
-    told(places(watches(none, s), s))
+    told(places(watches(none(), s), s))
 }

@@ -7,6 +7,7 @@ mod rules;
 use part::part_of;
 use shelf_state::Shelf;
 use test_lines::Vector;
+use test_lines::digest::of_bytes;
 use test_lines::number;
 
 // The shelf after a vector, and whether there was one.
@@ -18,7 +19,7 @@ struct Next {
 fn call(v: Vector, s: Shelf, area: &mut [u8], b: &[u8]) -> Shelf {
     let t = calls::answer(v, s, area, b);
     number(digest::of_records(t));
-    number(digest::of_bytes(area));
+    number(of_bytes(area));
     t
 }
 

@@ -2,8 +2,8 @@
 use Prim.Native.Nat.{_-_, _≤_}
 use lib.ListN.{length}
 use borrow.Author.Needs.{needs}
-use Rattle.test_shelf.proofs.digest.of_bytes.Statement.{statement}
-use Rattle.test_shelf.proofs.digest.of_bytes.Tie as tie
+use Rattle.test_lines.proofs.digest.of_bytes.Statement.{statement}
+use Rattle.test_lines.proofs.digest.of_bytes.Tie as tie
 
 abbrev Inv-loop : tie.InvT-loop
 Inv-loop s d₀ i₀ d i = i ≤ length s
@@ -11,14 +11,14 @@ Inv-loop s d₀ i₀ d i = i ≤ length s
 abbrev μ-loop : tie.MeasureT-loop
 μ-loop s d₀ i₀ d i = length s - i
 
+none-requires : tie.Need-none-requires Inv-loop μ-loop
+none-requires c κs = search needs
+
 loop-holds : tie.Need-loop-holds Inv-loop μ-loop
 loop-holds c = search needs
 
-shared-slice-read-wide : tie.Need-shared-slice-read-wide Inv-loop μ-loop
-shared-slice-read-wide c = search needs
-
-wide-requires : tie.Need-wide-requires Inv-loop μ-loop
-wide-requires c κs = search needs
+byte-requires : tie.Need-byte-requires Inv-loop μ-loop
+byte-requires c κs = search needs
 
 number-requires : tie.Need-number-requires Inv-loop μ-loop
 number-requires c κs = search needs
@@ -44,9 +44,9 @@ of-bytes-spec =
     (tie.spec
     Inv-loop
     μ-loop
+    none-requires
     loop-holds
-    shared-slice-read-wide
-    wide-requires
+    byte-requires
     number-requires
     add-i
     loop-less

@@ -1,0 +1,4 @@
+pub mod OnceLaws
+pub mod TestLaws
+pub mod EttLaws
+pub mod EitLaws

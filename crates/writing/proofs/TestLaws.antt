@@ -1,0 +1,61 @@
+-- Tests one after the other: which of them refuses, and what a length that was answered says of them.
+use Prim.Native.Nat.{ℕ, _+_, _≤_}
+use mathlib.Core.Path.{_≡_, refl, sym, ap, _∙_}
+use mathlib.Core.Bool.{Bool, true, false, not}
+use mathlib.Core.List.{List}
+use native.Mathlib.Omega.{arith}
+use lib.ListN.{length}
+use borrow.Author.Tests.{leb-true, not-true, not-false}
+use Rattle.logic.proofs.LoopLaws.{and-left, and-right}
+use Rattle.refusal.specs.Outcomes.{Outcome, refused, result, after}
+use Rattle.refusal.specs.Outputs.{counted}
+use Rattle.refusal.proofs.OutcomeLaws.{same-result, not-both}
+use Rattle.kind.specs.declared.Kind.{Kind}
+use Rattle.kind.specs.Kinds.{limitsOf}
+use Rattle.section.specs.declared.write.Given.{Given}
+use Rattle.section.specs.Encoding.{encodeWith}
+use Rattle.section.specs.Writing.{headerGiven, headerFits, lengthFits}
+use Rattle.section.proofs.EncodingLaws.{encoded-size}
+use Rattle.writing.specs.Written.{orRefuse, fitting}
+use Rattle.writing.specs.Inner.{Fits}
+
+-- ---- one test, as the code has it, and those behind it
+module _ (n : ℕ) (b : Bool) (o : Outcome (List ℕ)) {t : Bool} (told : t ≡ b) where
+  pub refuses : not t ≡ true → refused n ≡ counted (orRefuse n b o)
+  unfolding orRefuse counted after
+  refuses e = rw (sym told ∙ not-true t e)
+
+  pub goes-on : {x : Outcome ℕ} → not t ≡ false → x ≡ counted o → x ≡ counted (orRefuse n b o)
+  unfolding orRefuse
+  goes-on e f = rw (sym told ∙ not-false t e) f
+
+-- what came to a result has passed
+pub went-on : (n : ℕ) (b : Bool) (o : Outcome (List ℕ)) (s : List ℕ) → orRefuse n b o ≡ result s → (b ≡ true) × (o ≡ result s)
+unfolding orRefuse
+went-on n true o s e = (refl, e)
+went-on n false o s e = not-both n s e
+
+-- ---- 24
+counted-or : (b : Bool) (s : List ℕ) → orRefuse 24 b (result (length s)) ≡ counted (orRefuse 24 b (result s))
+unfolding orRefuse counted after
+counted-or true s = refl
+counted-or false s = refl
+
+pub told-length : {x : Outcome ℕ} (k : Kind) (room : ℕ) (s : List ℕ) (n : ℕ) → length s ≡ n
+    → x ≡ orRefuse 24 (lengthFits k room n) (result n) → x ≡ counted (fitting k room s)
+unfolding fitting
+told-length k room s n l e =
+    e ∙ ap (λ m. orRefuse 24 (lengthFits k room m) (result m)) (sym l) ∙ counted-or (lengthFits k room (length s)) s
+
+-- a section that came to a result has room
+module _ (k : Kind) (g : Given) (body : List ℕ) (n room : ℕ) (small : limitsOf k .largest ≤ 4093) (size : length body ≡ n) where
+  pub has-room : (s : List ℕ) → headerFits g ≡ true → fitting k room (encodeWith k (headerGiven g) body) ≡ result s
+      → Fits g n room × (encodeWith k (headerGiven g) body ≡ s)
+  unfolding fitting lengthFits
+  has-room s h e =
+      let m = length (encodeWith k (headerGiven g) body) in
+      let w = went-on 24 (lengthFits k room m) _ s e in
+      let l = leb-true m (limitsOf k .largest + 3) (and-left _ _ (w .0)) in
+      let r = leb-true m room (and-right _ _ (w .0)) in
+      let z = encoded-size k (headerGiven g) body in
+      (record { header = h; largest = omega arith; room = omega arith }, same-result _ _ (w .1))
