@@ -1,4 +1,5 @@
-"""Sections that are given to be written: what is asked, and what is to stand in the buffer afterwards (SCOPE 2.4, 2.5 and 6).
+"""Sections that are given to be written: what is asked, and what is to stand in the buffer afterwards (SCOPE 2.4, 2.5 and 6). A section that is
+written is read and written again, which gives its old bytes (SCOPE 12.4).
 
 Everything that is written is made here from the rules: `sections.py` has header and checksum, `bodies.py` judges a title, a list and a text.
 """
@@ -7,10 +8,10 @@ import struct
 import zlib
 
 import bodies
-from sections import EIT, ETT, KINDS, Refused, section
+from sections import EIT, ETT, KINDS, Refused, register, section
 from texts import made, plain, wide
 
-EIT_OP, ETT_OP = 1, 2
+EIT_OP, ETT_OP, SHOWN_OP = 1, 2, 3
 FILLED = 0xA5  # every byte of the buffer before
 vectors = []
 
@@ -78,14 +79,18 @@ def made_section(kind, head, body):
     return section(kind, body, extension, version, current, number, last, length=length & 0xFFF)
 
 
-def answered(write, room):
-    """The line: the answer, and the Adler-32 of the whole buffer afterwards."""
-    buffer = bytes([FILLED]) * room
+def standing(s, room):
+    """A buffer of so many bytes with these at its start."""
+    return s + bytes([FILLED]) * (room - len(s))
+
+
+def answered(write, room, shown=lambda buffer: "%d" % zlib.adler32(buffer)):
+    """The line: the answer, and the whole buffer afterwards; then the same of a buffer of ROOM bytes, into which the section is written again."""
     try:
         s = write()
     except Refused as refused:
-        return "refused %d: %d" % (refused.args[0], zlib.adler32(buffer))
-    return "written %d: %d" % (len(s), zlib.adler32(s + buffer[len(s):]))
+        return "refused %d: %s" % (refused.args[0], shown(standing(b"", room)))
+    return "written %d: %s again written %d: %d" % (len(s), shown(standing(s, room)), len(s), zlib.adler32(standing(s, ROOM)))
 
 
 def packed(numbers):
@@ -114,10 +119,17 @@ def row(event=5, start=1000, etm=0, seconds=1800, title=(0, 0), listed=(0, 0)):
     return [event, start, etm, seconds, *title, *listed]
 
 
-# ---- the section of P9
-P9 = eit(HEAD, 1, row(title=(0, 11)), TEA, ROOM)
-assert len(P9) == 37 and P9 == section(EIT, bytes([1, 0xC0, 5, 0, 0, 3, 232, 0xC0, 7, 8, 11]) + TEA + b"\xF0\x00", 7, 3)
-add_eit(HEAD, 1, row(title=(0, 11)), TEA, 37, "written 37")
+# ---- the section of P9, byte by byte as SCOPE 1.3, 2.4, 4.1 and 8.2 have it
+P9 = [
+    0xCB, 0xF0, 34, 0, 7, 0xC7, 0, 0, 0,  # header: section_length 34, source 7, version 3, current, section 0 of 0
+    1, 0xC0, 5, 0, 0, 3, 232, 0xC0, 7, 8,  # one event: event_id 5, start 1000, length 1800
+    11, 1, 0x65, 0x6E, 0x67, 1, 0, 0, 3, 0x54, 0x65, 0x61,  # title: one string, "eng", one segment, plain, "Tea"
+    0xF0, 0,  # no descriptors
+    0xCF, 0x03, 0x90, 0x0B,  # the checksum
+]
+assert len(P9) == 37 and register(P9) == 0 and bytes(P9) == eit(HEAD, 1, row(title=(0, 11)), TEA, ROOM)
+shown = answered(lambda: bytes(P9), 37, lambda buffer: " ".join(map(str, buffer)))
+vectors.append((SHOWN_OP, (1, 8, 37), packed(HEAD) + packed(row(title=(0, 11))) + TEA, shown))
 add_eit(HEAD, 1, row(title=(0, 11)), TEA, 36, "refused 24")
 add_eit(HEAD, 0, [], b"", ROOM, "written 14")
 add_eit(HEAD, 1, row(title=(0, 11), listed=(11, 8)), TEA + ADVISED, ROOM, "written 45")
@@ -204,7 +216,7 @@ add_ett((7, 32, 1, 0, 1), 1, b"", 0, "refused 23")
 add_ett((7, 3, 1, 0, 1), 1, b"", 0, "refused 8")
 add_ett(HEAD, 1, b"", 0, "refused 9")
 
-# ---- there and back: random sections up to the limits, and those with one fault
+# ---- random sections up to the limits, and those with one fault
 chance = random.Random(65)
 
 

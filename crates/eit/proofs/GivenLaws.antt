@@ -70,7 +70,7 @@ row-last rows a x e h =
     same-truth (ltb x 4096) (rowFits rows a) (λ t. row-fit rows a (h (omega (arith, ltb-true x 4096 t, e))))
     (λ t. lt-ltb x 4096 (omega (arith, e, row-room rows a t .list)))
 
-stands-yes : (w : Walk) → stands w ≡ true → Stands w
+pub stands-yes : (w : Walk) → stands w ≡ true → Stands w
 stands-yes (To e) h = (e, refl)
 stands-yes (Bad x) h = true-false (stands (Bad x)) h refl
 

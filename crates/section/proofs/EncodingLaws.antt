@@ -18,7 +18,7 @@ use Rattle.format.specs.Values.{Vals, Fit, number, bytesOf, valsAt}
 use Rattle.format.specs.Named.{vals-there}
 use Rattle.section.specs.declared.header.Header.{Header}
 use Rattle.section.specs.Bodies.{bodyFormat}
-use Rattle.section.specs.Headers.{headerFields, headerBy}
+use Rattle.section.specs.Headers.{headerIn, headerBy}
 use Rattle.section.specs.Sections.{bodyWalk, walked, bodyTest, withBody, verdictBy, plainly, sectionBy}
 use Rattle.section.specs.Encoding.{headerHead, HeaderFields, Section, headFor, unsealed, encodeWith, bodyBytes, encode, WellFormed, headerOf}
 use Rattle.section.proofs.HeaderLaws.{Are, header-bits}
@@ -102,7 +102,7 @@ module _ (k : Kind) (y : Section k) (o : WellFormed k y) where
   are : Are (encode y) (headOf k y)
   are = subst (λ v. Are (encode y) v) (vals k y o) (header-bits (encode y) (encode-bytes k y o))
 
-  header-is : headerFields k (encode y) ≡ headerOf y
+  header-is : headerIn k (encode y) ≡ headerOf y
   header-is = λ i. record {
     kind = k;
     extension = are .extension i;

@@ -20,7 +20,7 @@ use Rattle.kind.specs.declared.Found.{Found}
 use Rattle.kind.specs.declared.Found.the-variants.{Is, Nothing}
 use Rattle.kind.specs.Kinds.{limitsOf, tableIdOf, kindOf, onlyOf}
 use Rattle.section.specs.declared.header.Header.{Header}
-use Rattle.section.specs.Headers.{tableId, syntaxIndicator, privateIndicator, sectionLength, sectionNumber, lastSectionNumber, headerFields, headerBy, ofKind, lengthTests, checksumTest, numberTests}
+use Rattle.section.specs.Headers.{tableId, syntaxIndicator, privateIndicator, sectionLength, sectionNumber, lastSectionNumber, headerIn, headerBy, ofKind, lengthTests, checksumTest, numberTests}
 use Rattle.section.specs.Sections.{bodyWalk, walked, bodyTest, withBody, verdictBy, plainly, sectionBy}
 use Rattle.section.proofs.PassLaws.{not-less, equal, not-equal}
 
@@ -35,7 +35,7 @@ pub record Passed (k : Kind) (s : List ℕ) (h : Header) : Type 0 where
   pub byte-zero : byteAt s (limitsOf k .«zero_byte») ≡ 0
   pub number-last : sectionNumber s ≤ lastSectionNumber s
   pub last-limit : lastSectionNumber s ≤ limitsOf k .last
-  pub fields : h ≡ headerFields k s
+  pub fields : h ≡ headerIn k s
 
 same : {A : Type 0} (a b : A) → result a ≡ result b → b ≡ a
 same a b e = cc

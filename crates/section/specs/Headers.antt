@@ -49,8 +49,8 @@ abbrev pub headOutcome : Head → Outcome Header
 headOutcome (Refused k) = refused (numberOf k)
 headOutcome (Passes h) = result h
 
-abbrev pub headerFields : Kind → List ℕ → Header
-headerFields k s = record {
+abbrev pub headerIn : Kind → List ℕ → Header
+headerIn k s = record {
   kind = k;
   extension = tableIdExtension s;
   version = versionNumber s;
@@ -66,7 +66,7 @@ numberTests l k s =
     ifEq (byteAt s (l .«zero_byte»)) 0
     (ifLt (lastSectionNumber s) (sectionNumber s) (refused 8)
     (ifLt (l .last) (lastSectionNumber s) (refused 8)
-    (result (headerFields k s))))
+    (result (headerIn k s))))
     (refused (numberOf (l .«zero_refusal»)))
 
 -- 6

@@ -1,16 +1,14 @@
 // Writes the sections of tests/test_writing.py, op 1 an EIT and op 2 an ETT, into a buffer that is filled before, so that what changed
-// there shows.
+// there shows; what is written is then read and written again. Op 3 is op 1 with every byte of the buffer shown.
+mod again;
+mod show;
+
 use bytes_at::long;
 use part::part_of;
 use row::narrow;
 use section::write::Given;
 use test_lines::Vector;
-use test_lines::digest::of_bytes;
-use test_lines::number;
-use test_lines::refused;
 use test_lines::say;
-use test_lines::told;
-use writing::answer::Written;
 ghost use mathlib.Core.Path.{_≡_};
 ghost use Prim.Native.Nat.{_≤_};
 ghost use lib.ListN.{length};
@@ -51,15 +49,6 @@ fn gather(s: &[u8], n: usize, rows: &mut [u32])
     }
 }
 
-fn show(w: Written, out: &[u8]) {
-    match w {
-        Written::Refused(k) => refused(k),
-        Written::Length(n) => told(b" written", n),
-    }
-    say(b":");
-    number(of_bytes(out));
-}
-
 fn eit(v: Vector, s: &[u8], rows: &mut [u32], out: &mut [u8])
     requires { ⌜ length (now rows) ≤ 2048 ⌝ }
 {
@@ -67,7 +56,12 @@ fn eit(v: Vector, s: &[u8], rows: &mut [u32], out: &mut [u8])
     gather(part_of(s, HEAD, 4 * n), n, rows);
     let data = part_of(s, HEAD + 4 * n, 65535);
     let w = writing::eits::write(given(s), v.a, rows, data, out);
-    show(w, out);
+    if v.op == 3 {
+        show::bytes(w, out);
+    } else {
+        show::digest(w, out);
+    }
+    again::answer(w, out);
 }
 
 // The rows have as many numbers as the vector's second one says.
@@ -81,14 +75,15 @@ fn eit_with_rows(v: Vector, s: &[u8], out: &mut [u8]) {
 
 fn ett(v: Vector, s: &[u8], out: &mut [u8]) {
     let w = writing::etts::write(given(s), v.a, part_of(s, HEAD, 65535), out);
-    show(w, out);
+    show::digest(w, out);
+    again::answer(w, out);
 }
 
 fn section(v: Vector, s: &[u8], out: &mut [u8]) {
-    if v.op == 1 {
-        eit_with_rows(v, s, out);
-    } else {
+    if v.op == 2 {
         ett(v, s, out);
+    } else {
+        eit_with_rows(v, s, out);
     }
 }
 

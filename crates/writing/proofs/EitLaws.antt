@@ -29,7 +29,7 @@ use Rattle.writing.specs.Inner.{EitFits}
 use Rattle.writing.proofs.TestLaws.{went-on, has-room}
 
 -- where there are as many rows as are counted, all are whole
-all-whole : (count : ℕ) (rows : List ℕ) → length rows ≡ 8 * count → wholeRows count rows ≡ count
+pub all-whole : (count : ℕ) (rows : List ℕ) → length rows ≡ 8 * count → wholeRows count rows ≡ count
 unfolding wholeRows
 all-whole count rows e = rw (le-ltb (length rows / 8) count (omega arith))
 

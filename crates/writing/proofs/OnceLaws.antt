@@ -25,7 +25,7 @@ written-back (Length n) = refl
 pub written-once : (x y : Written) → writtenOutcome x ≡ writtenOutcome y → x ≡ y
 written-once = once-by writtenOutcome written-told written-back
 
-pub written-keeps : (l : List ℕ) (o : Outcome (List ℕ)) (x : Written) (k : Refusal) → writtenOutcome x ≡ counted o → x ≡ Refused k
+pub buffer-keeps : (l : List ℕ) (o : Outcome (List ℕ)) (x : Written) (k : Refusal) → writtenOutcome x ≡ counted o → x ≡ Refused k
     → outputAfter l o ≡ l
 unfolding outputAfter
-written-keeps l o x k e q = let n = from-refusal o (numberOf k) (sym (ap writtenOutcome q) ∙ e) in rw n
+buffer-keeps l o x k e q = let n = from-refusal o (numberOf k) (sym (ap writtenOutcome q) ∙ e) in rw n

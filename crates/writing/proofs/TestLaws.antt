@@ -16,7 +16,7 @@ use Rattle.section.specs.declared.write.Given.{Given}
 use Rattle.section.specs.Encoding.{encodeWith}
 use Rattle.section.specs.Writing.{headerGiven, headerFits, lengthFits}
 use Rattle.section.proofs.EncodingLaws.{encoded-size}
-use Rattle.writing.specs.Written.{orRefuse, fitting}
+use Rattle.writing.specs.Written.{orRefuse, allowed}
 use Rattle.writing.specs.Inner.{Fits}
 
 -- ---- one test, as the code has it, and those behind it
@@ -42,16 +42,16 @@ counted-or true s = refl
 counted-or false s = refl
 
 pub told-length : {x : Outcome ℕ} (k : Kind) (room : ℕ) (s : List ℕ) (n : ℕ) → length s ≡ n
-    → x ≡ orRefuse 24 (lengthFits k room n) (result n) → x ≡ counted (fitting k room s)
-unfolding fitting
+    → x ≡ orRefuse 24 (lengthFits k room n) (result n) → x ≡ counted (allowed k room s)
+unfolding allowed
 told-length k room s n l e =
     e ∙ ap (λ m. orRefuse 24 (lengthFits k room m) (result m)) (sym l) ∙ counted-or (lengthFits k room (length s)) s
 
 -- a section that came to a result has room
 module _ (k : Kind) (g : Given) (body : List ℕ) (n room : ℕ) (small : limitsOf k .largest ≤ 4093) (size : length body ≡ n) where
-  pub has-room : (s : List ℕ) → headerFits g ≡ true → fitting k room (encodeWith k (headerGiven g) body) ≡ result s
+  pub has-room : (s : List ℕ) → headerFits g ≡ true → allowed k room (encodeWith k (headerGiven g) body) ≡ result s
       → Fits g n room × (encodeWith k (headerGiven g) body ≡ s)
-  unfolding fitting lengthFits
+  unfolding allowed lengthFits
   has-room s h e =
       let m = length (encodeWith k (headerGiven g) body) in
       let w = went-on 24 (lengthFits k room m) _ s e in

@@ -24,9 +24,9 @@ unfoldable pub orRefuse : {A : Type 0} → ℕ → Bool → Outcome A → Outcom
 orRefuse n true o = o
 orRefuse n false o = refused n
 
--- 24, and the section
-unfoldable pub fitting : Kind → ℕ → List ℕ → Outcome (List ℕ)
-fitting k room s = orRefuse 24 (lengthFits k room (length s)) (result s)
+-- 24: the section, where its kind and the buffer allow its length
+unfoldable pub allowed : Kind → ℕ → List ℕ → Outcome (List ℕ)
+allowed k room s = orRefuse 24 (lengthFits k room (length s)) (result s)
 
 -- ---- an EIT: the header as given, and a row of eight numbers for each event, with places in one list of bytes
 unfoldable pub eitBytes : Given → ℕ → List ℕ → List ℕ → List ℕ
@@ -41,7 +41,7 @@ eitWritten g count rows bytes room =
     orRefuse 23 (headerFits g & ltb count 256 & rowsFit rows (wholeRows count rows) 0)
     (orRefuse 8 (numbersFit Eit g)
     (orRefuse 9 (eqb (length rows) (8 * count) & rowsSound rows bytes count 0)
-    (fitting Eit room (eitBytes g count rows bytes))))
+    (allowed Eit room (eitBytes g count rows bytes))))
 
 -- ---- an ETT: the header as given, ETM_id, and a text as bytes, which may not be empty
 unfoldable pub ettBytes : Given → ℕ → List ℕ → List ℕ
@@ -52,4 +52,4 @@ ettWritten g etm t room =
     orRefuse 23 (headerFits g & ltb etm 4294967296)
     (orRefuse 8 (numbersFit Ett g)
     (orRefuse 9 (ltb 0 (length t) & stands (walksAll text t (length t) 0))
-    (fitting Ett room (ettBytes g etm t))))
+    (allowed Ett room (ettBytes g etm t))))

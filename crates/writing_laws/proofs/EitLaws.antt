@@ -1,11 +1,11 @@
 -- An EIT that is written is the encoding of the record given, and no other.
-use Prim.Native.Nat.{ℕ, zero, suc, _+_, _*_, _/_, _≤_, _<_}
+use Prim.Native.Nat.{ℕ, zero, suc, _+_, _*_, _≤_, _<_}
 use mathlib.Core.Path.{_≡_, refl, sym, ap, _∙_, subst}
 use mathlib.Core.Bool.{true}
 use mathlib.Core.List.{List, [], _∷_, _++_, map}
 use native.Mathlib.Omega.{arith}
 use lib.ListN.{length, length-append, length-map}
-use borrow.Author.Tests.{ltb-true, eqb-true, lt-ltb, le-ltb, eq-eqb}
+use borrow.Author.Tests.{ltb-true, eqb-true, lt-ltb, eq-eqb}
 use Rattle.logic.proofs.LoopLaws.{and-left, and-right, and-i}
 use Rattle.bytes_at.specs.declared.Walk.the-variants.{To}
 use Rattle.refusal.specs.Outcomes.{result}
@@ -26,9 +26,10 @@ use Rattle.eit.proofs.GivenLaws.{HasRoom, row-last, row-sound, part-told, event
 use Rattle.section.specs.declared.write.Given.{Given}
 use Rattle.section.specs.Encoding.{Section, encode, encodeWith}
 use Rattle.section.specs.Writing.{headerGiven}
-use Rattle.writing.specs.Written.{fitting, eitBytes, wholeRows, eitWritten}
+use Rattle.writing.specs.Written.{allowed, eitBytes, eitWritten}
 use Rattle.writing.proofs.TestLaws.{went-on}
-use Rattle.writing_laws.specs.RoundTrips.{Encodes, asBytes, Inside, GivesEit, WritesEit}
+use Rattle.writing.proofs.EitLaws.{all-whole}
+use Rattle.writing_laws.specs.RoundTrips.{EncodingOf, asBytes, Inside, GivesEit, WritesEit}
 use Rattle.writing_laws.proofs.TestLaws.{passes, fitted, fits, given, well-formed, header-passes, numbers-pass, largest-holds, as-given}
 
 -- ---- events as bytes have the same bytes
@@ -67,13 +68,8 @@ module _ (rows bytes : List ℕ) where
   rows-inside (suc n) a e (suc i) h =
       subst (Inside rows bytes) (omega arith) (rows-inside n (a + 8) (and-right _ _ e) i (omega arith))
 
--- all that are counted are there whole
-whole-rows : (count : ℕ) (rows : List ℕ) → length rows ≡ 8 * count → wholeRows count rows ≡ count
-unfolding wholeRows
-whole-rows count rows e = let d : length rows / 8 ≡ count = omega arith in rw (le-ltb (length rows / 8) count (omega arith))
-
 module _ (g : Given) (count : ℕ) (rows bytes : List ℕ) (room : ℕ) (z : Bytes bytes) (s : List ℕ) where
-  written : eitWritten g count rows bytes room ≡ result s → Encodes (GivesEit g count rows bytes) s × (length s ≤ room)
+  written : eitWritten g count rows bytes room ≡ result s → EncodingOf (GivesEit g count rows bytes) s × (length s ≤ room)
   unfolding eitWritten
   written e =
       let a = went-on 23 _ _ s e in
@@ -84,7 +80,7 @@ module _ (g : Given) (count : ℕ) (rows bytes : List ℕ) (room : ℕ) (z : Byt
       let sound = and-right _ _ (c .0) in
       let rest = and-right _ _ (a .0) in
       let small = ltb-true count 256 (and-left _ _ rest) in
-      let fit = subst (λ n. rowsFit rows n 0 ≡ true) (whole-rows count rows whole) (and-right _ _ rest) in
+      let fit = subst (λ n. rowsFit rows n 0 ≡ true) (all-whole count rows whole) (and-right _ _ rest) in
       let u = events-given rows bytes z count 0 fit sound in
       let es = u .0 in
       let events = subst (λ n. map asBytes es ≡ eventsGiven rows bytes n 0) (u .1 .1) (given-as rows bytes 0 es (u .1 .0)) in
@@ -174,13 +170,13 @@ writes g count rows bytes b room v m =
     let u = events-are g count rows bytes (given Eit g b) v in
     let n = u .0 in
     let r = rows-pass rows bytes 0 (b .events) (o .body .1 .1 .1) (u .1) (λ i l. subst (Inside rows bytes) (omega arith) (v .inside i (omega arith))) in
-    let fit = subst (λ n. rowsFit rows n 0 ≡ true) (n ∙ sym (whole-rows count rows (v .whole))) (r .0) in
+    let fit = subst (λ n. rowsFit rows n 0 ≡ true) (n ∙ sym (all-whole count rows (v .whole))) (r .0) in
     let sound = subst (λ n. rowsSound rows bytes n 0 ≡ true) n (r .1) in
     let small : count < 256 = omega (arith, o .body .1 .0) in
     passes 23 _ _ _ (and-i _ _ (header-passes Eit g b o) (and-i _ _ (lt-ltb _ _ small) fit))
     (passes 8 _ _ _ (numbers-pass Eit g b o)
     (passes 9 _ _ _ (and-i _ _ (eq-eqb _ _ (v .whole)) sound)
-    (ap (fitting Eit room) (same-bytes g count rows bytes (b .events) (v .events)) ∙ fits Eit room _ (largest-holds Eit g b o) m)))
+    (ap (allowed Eit room) (same-bytes g count rows bytes (b .events) (v .events)) ∙ fits Eit room _ (largest-holds Eit g b o) m)))
 
 pub writes-eit : WritesEit eitWritten
 writes-eit g count rows bytes room z s = (

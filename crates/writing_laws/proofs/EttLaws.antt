@@ -7,10 +7,7 @@ use mathlib.Core.Option.{none, some}
 use native.Mathlib.Omega.{arith}
 use lib.ListN.{length, length-append}
 use borrow.Author.Tests.{ltb-true, lt-ltb}
-use Rattle.logic.proofs.LoopLaws.{true-false, and-left, and-right, and-i}
-use Rattle.bytes_at.specs.declared.Walk.{Walk}
-use Rattle.bytes_at.specs.declared.Walk.the-variants.{To, Bad}
-use Rattle.bytes_at.specs.Walks.{Stands}
+use Rattle.logic.proofs.LoopLaws.{and-left, and-right, and-i}
 use Rattle.refusal.specs.Outcomes.{result}
 use Rattle.refusal.proofs.OutcomeLaws.{same-result}
 use Rattle.kind.specs.declared.Kind.the-variants.{Ett}
@@ -24,6 +21,7 @@ use Rattle.format.proofs.RelocationLaws.{own-bytes}
 use Rattle.part.specs.Parts.{bytesIn}
 use Rattle.strings.specs.Strings.{string, structure, text, asText}
 use Rattle.eit.specs.Given.{stands}
+use Rattle.eit.proofs.GivenLaws.{stands-yes}
 use Rattle.ett.specs.Format.{etmHead, EttFields, ettFormat}
 use Rattle.ett.specs.Values.{fieldsFor}
 use Rattle.ett.proofs.FieldLaws.{as-text-lies}
@@ -33,16 +31,12 @@ use Rattle.section.specs.Encoding.{Section, encode, WellFormed, AllOnes, header
 use Rattle.section.proofs.EncodingLaws.{body-lies, body-ends, accepts}
 use Rattle.reading.specs.Etts.{fieldsOf}
 use Rattle.section_laws.proofs.TableLaws.{ett-reads}
-use Rattle.writing.specs.Written.{fitting, ettBytes, ettWritten}
+use Rattle.writing.specs.Written.{allowed, ettBytes, ettWritten}
 use Rattle.writing.proofs.TestLaws.{went-on}
-use Rattle.writing_laws.specs.RoundTrips.{givenOf, Encodes, EttWriter, GivesEtt, WritesEtt, textPlace, ReadsBackEtt, RewritesEtt}
+use Rattle.writing_laws.specs.RoundTrips.{givenOf, EncodingOf, EttWriter, GivesEtt, WritesEtt, textPlace, ReadsBackEtt, RewritesEtt}
 use Rattle.writing_laws.proofs.TestLaws.{passes, fitted, fits, given, well-formed, header-passes, numbers-pass, largest-holds, header-read, header-back}
 
 -- ---- the text
-standing : (w : Walk) → stands w ≡ true → Stands w
-standing (To e) h = (e, refl)
-standing (Bad x) h = true-false (stands (Bad x)) h refl
-
 not-nothing : (t : List ℕ) → 0 < length t → (x : text .Val) → text .Ok (record {}) x → t ≡ text .enc x
     → (y : structure .Val) × (structure .Ok (record {}) y × (t ≡ structure .enc y))
 unfolding text
@@ -52,7 +46,7 @@ not-nothing t h (some y) o e = (y, (o, e))
 -- one that is not empty and stands on its own is a structure
 structure-is : (t : List ℕ) → Bytes t → 0 < length t → stands (walksAll text t (length t) 0) ≡ true
     → (y : structure .Val) × (structure .Ok (record {}) y × (t ≡ structure .enc y))
-structure-is t z h e = let u = own-bytes text (record {}) t z .0 (standing _ e) in not-nothing t h (u .0) (u .1 .0) (u .1 .1)
+structure-is t z h e = let u = own-bytes text (record {}) t z .0 (stands-yes _ e) in not-nothing t h (u .0) (u .1 .0) (u .1 .1)
 
 structure-full : (y : structure .Val) → structure .Ok (record {}) y → 0 < length (structure .enc y)
 unfolding structure
@@ -77,7 +71,7 @@ smallest etm x o =
     omega (arith, length-append (bytesOf 4 n) (structure .enc x), bytes-length 4 n, structure-full x o)
 
 module _ (g : Given) (etm : ℕ) (t : List ℕ) (room : ℕ) (z : Bytes t) (s : List ℕ) where
-  written : ettWritten g etm t room ≡ result s → Encodes (GivesEtt g etm t) s × (length s ≤ room)
+  written : ettWritten g etm t room ≡ result s → EncodingOf (GivesEtt g etm t) s × (length s ≤ room)
   unfolding ettWritten
   written e =
       let a = went-on 23 _ _ s e in
@@ -100,7 +94,7 @@ writes g etm x room o m =
     passes 23 _ _ _ (and-i _ _ (header-passes Ett g y o) (lt-ltb _ _ (o .body .0 .0)))
     (passes 8 _ _ _ (numbers-pass Ett g y o)
     (passes 9 _ _ _ (and-i _ _ (lt-ltb _ _ (structure-full x (o .body .1))) (structure-stands x (o .body .1)))
-    (ap (fitting Ett room) (same-bytes g etm x) ∙ fits Ett room _ (largest-holds Ett g y o) m)))
+    (ap (allowed Ett room) (same-bytes g etm x) ∙ fits Ett room _ (largest-holds Ett g y o) m)))
 
 pub writes-ett : WritesEtt ettWritten
 writes-ett g etm t room z s = (

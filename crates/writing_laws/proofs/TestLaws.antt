@@ -18,7 +18,7 @@ use Rattle.section.specs.Writing.{headerGiven, headerFits, numbersFit, lengthFi
 use Rattle.section.proofs.EncodingLaws.{encoded-size}
 use Rattle.section.proofs.KindLaws.{known}
 use Rattle.section.proofs.WritingLaws.{header-room}
-use Rattle.writing.specs.Written.{orRefuse, fitting}
+use Rattle.writing.specs.Written.{orRefuse, allowed}
 use Rattle.writing.proofs.TestLaws.{went-on}
 use Rattle.writing_laws.specs.RoundTrips.{headerRead, givenOf}
 
@@ -28,15 +28,15 @@ unfolding orRefuse
 passes n t o x e f = rw e f
 
 -- ---- the length
-pub fitted : (k : Kind) (room : ℕ) (x s : List ℕ) → fitting k room x ≡ result s
+pub fitted : (k : Kind) (room : ℕ) (x s : List ℕ) → allowed k room x ≡ result s
     → (s ≡ x) × ((length x ≤ limitsOf k .largest + 3) × (length x ≤ room))
-unfolding fitting lengthFits
+unfolding allowed lengthFits
 fitted k room x s e =
     let p = went-on 24 _ _ s e in
     (sym (same-result x s (p .1)), (leb-true _ _ (and-left _ _ (p .0)), leb-true _ _ (and-right _ _ (p .0))))
 
-pub fits : (k : Kind) (room : ℕ) (x : List ℕ) → length x ≤ limitsOf k .largest + 3 → length x ≤ room → fitting k room x ≡ result x
-unfolding fitting lengthFits
+pub fits : (k : Kind) (room : ℕ) (x : List ℕ) → length x ≤ limitsOf k .largest + 3 → length x ≤ room → allowed k room x ≡ result x
+unfolding allowed lengthFits
 fits k room x h m = passes 24 _ _ (result x) (and-i _ _ (le-leb _ _ h) (le-leb _ _ m)) refl
 
 -- ---- the header

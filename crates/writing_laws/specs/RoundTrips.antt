@@ -42,8 +42,8 @@ givenOf h = record { extension = h .extension; version = h .version; current = h
 
 -- ---- records
 -- s is the encoding of such a record
-abbrev pub Encodes : {k : Kind} → (Section k → Type 0) → List ℕ → Type 0
-Encodes {k} Such s = (y : Section k) × (Such y × (s ≡ encode y))
+abbrev pub EncodingOf : {k : Kind} → (Section k → Type 0) → List ℕ → Type 0
+EncodingOf {k} Such s = (y : Section k) × (Such y × (s ≡ encode y))
 
 -- the record is well formed, and its reserved bits are ones
 abbrev pub WithOnes : {k : Kind} → Section k → Type 0
@@ -64,7 +64,7 @@ pub record GivesEtt (g : Given) (etm : ℕ) (t : List ℕ) (y : Section Ett) : T
 abbrev pub WritesEtt : EttWriter → Type 0
 WritesEtt write =
     (g : Given) (etm : ℕ) (t : List ℕ) (room : ℕ) → Bytes t → (s : List ℕ)
-    → (write g etm t room ≡ result s) ↔ (Encodes (GivesEtt g etm t) s × (length s ≤ room))
+    → (write g etm t room ≡ result s) ↔ (EncodingOf (GivesEtt g etm t) s × (length s ≤ room))
 
 -- it reads as given: the header, ETM_id, and the text by its bytes
 abbrev pub textPlace : List ℕ → Part
@@ -82,7 +82,7 @@ ReadsBackEtt write =
 -- an accepted section whose reserved bits are ones is written again from what is read of it
 abbrev pub RewritesEtt : EttWriter → Type 0
 RewritesEtt write =
-    (s : List ℕ) (h : Header) (f : EttTable) → sectionBy (onlyOf Ett) s ≡ result h → etts.fieldsOf s ≡ result f → Encodes {k = Ett} WithOnes s
+    (s : List ℕ) (h : Header) (f : EttTable) → sectionBy (onlyOf Ett) s ≡ result h → etts.fieldsOf s ≡ result f → EncodingOf {k = Ett} WithOnes s
     → (room : ℕ) → length s ≤ room → write (givenOf h) (f .«etm_id») (bytesIn s (f .text)) room ≡ result s
 
 -- ---- an EIT, given by a header, a count, and for each event a row of eight numbers with places in one list of bytes
@@ -109,7 +109,7 @@ pub record GivesEit (g : Given) (count : ℕ) (rows bytes : List ℕ) (y : Secti
 abbrev pub WritesEit : EitWriter → Type 0
 WritesEit write =
     (g : Given) (count : ℕ) (rows bytes : List ℕ) (room : ℕ) → Bytes bytes → (s : List ℕ)
-    → (write g count rows bytes room ≡ result s) ↔ (Encodes (GivesEit g count rows bytes) s × (length s ≤ room))
+    → (write g count rows bytes room ≡ result s) ↔ (EncodingOf (GivesEit g count rows bytes) s × (length s ≤ room))
 
 -- it reads as given: event i is the one of row i, with its title and descriptors by their bytes
 pub record ReadsAsRow (rows bytes s : List ℕ) (i : ℕ) : Type 0 where
@@ -134,7 +134,7 @@ ReadsBackEit write =
 -- an accepted section whose reserved bits are ones is written again from its own rows and bytes
 abbrev pub RewritesEit : EitWriter → Type 0
 RewritesEit write =
-    (s : List ℕ) (h : Header) → sectionBy (onlyOf Eit) s ≡ result h → Encodes {k = Eit} WithOnes s → (room : ℕ) → length s ≤ room
+    (s : List ℕ) (h : Header) → sectionBy (onlyOf Eit) s ≡ result h → EncodingOf {k = Eit} WithOnes s → (room : ℕ) → length s ≤ room
     → write (givenOf h) (countOf Event s) (rowsFrom row.Event s (countOf Event s) (firstOf Event s)) s room ≡ result s
 
 -- ---- what the two writers of a library promise

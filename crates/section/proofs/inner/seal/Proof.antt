@@ -2,8 +2,8 @@
 use denote.Ref.{now}
 use borrow.Author.Needs.{needs}
 use Rattle.section.proofs.WritingLaws.{seal-put}
-use Rattle.section.proofs.write.seal.Statement.{statement}
-use Rattle.section.proofs.write.seal.Tie as tie
+use Rattle.section.proofs.inner.seal.Statement.{statement}
+use Rattle.section.proofs.inner.seal.Tie as tie
 
 part-of-requires : tie.Need-part-of-requires
 part-of-requires c κs = search needs

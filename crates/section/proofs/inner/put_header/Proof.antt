@@ -4,8 +4,8 @@ use native.Mathlib.Omega.{arith}
 use borrow.Author.Needs.{needs}
 use Rattle.section.proofs.KindLaws.{known}
 use Rattle.section.proofs.WritingLaws.{header-room, header-put}
-use Rattle.section.proofs.write.put_header.Statement.{statement}
-use Rattle.section.proofs.write.put_header.Tie as tie
+use Rattle.section.proofs.inner.put_header.Statement.{statement}
+use Rattle.section.proofs.inner.put_header.Tie as tie
 
 table-id-requires : tie.Need-table-id-requires
 table-id-requires c κs = search needs
