@@ -27,10 +27,11 @@ use Rattle.section.specs.Sections.{sectionBy, verdictBy, withBody, bodyTest}
 use Rattle.refusal.specs.Outcomes.{after}
 use Rattle.reading.specs.Eits.{entryOf}
 use Rattle.logic.specs.Loops.{_&_, _⇒_, all, any, sum, first, each}
-use Rattle.shelf_state.specs.Records.{sameKey, isOf, takenBy, holds, release, emptyShelf}
+use Rattle.shelf_state.specs.Records.{sameKey, isOf, holdsFor, holds, release, emptyShelf}
 use Rattle.shelf_state.specs.Rules.{quotaOf, watchable, inRange, keysDiffer, quotasFit, placesOwned, noneTwice, noneAboveQuota, lastBelowQuota, unheardEmpty, lengthsFit, keysInRange, sizesInRange, sizesFit, obeys}
 use Rattle.shelf.specs.Calls.{orRefuse, made, openedInRange, opened, closed}
-use Rattle.shelf.specs.Delivery.{judged, sameEdition, edited, placeFor, takenAt, taken, byJudge, delivering, delivered}
+use Rattle.shelf.specs.Delivery.{ownerIn, forOwner, edited, placeAmong, receivedAt, received, byJudge, arriving, delivering, delivered}
+use Rattle.shelf.specs.Views.{judged, sameEdition}
 use Rattle.text.specs.Segments.{wayOf, pairs, utf16Units, unitsBy, segmentUnits}
 use Rattle.text.specs.Strings.{standing, stringCount, stringAt, joined, joinedUnits, stringUnits}
 use Rattle.text.specs.Texts.{ofField, fieldUnits}
@@ -74,11 +75,11 @@ unfolding headerBy ofKind lengthTests checksumTest numberTests ifLt ifEq kindOf 
 p9 = (refl, (refl, (refl, rw (sealed-sound teaSection))))
 
 p10 : Says P10
-unfolding headerBy ofKind lengthTests checksumTest numberTests ifLt ifEq kindOf sealed fourBytes sectionBy verdictBy withBody bodyTest bodyOf then many ends skipTo bitsTo fieldsTo unto segment string structure text sizedText content descriptor descriptors list12 eit events event _&_ _⇒_ all any sum first each sameKey isOf takenBy holds release emptyShelf quotaOf watchable inRange keysDiffer quotasFit placesOwned noneTwice noneAboveQuota lastBelowQuota unheardEmpty lengthsFit keysInRange sizesInRange sizesFit obeys orRefuse made openedInRange opened closed judged sameEdition edited placeFor takenAt taken byJudge delivering delivered
+unfolding headerBy ofKind lengthTests checksumTest numberTests ifLt ifEq kindOf sealed fourBytes sectionBy verdictBy withBody bodyTest bodyOf then many ends skipTo bitsTo fieldsTo unto segment string structure text sizedText content descriptor descriptors list12 eit events event _&_ _⇒_ all any sum first each sameKey isOf holdsFor holds release emptyShelf quotaOf watchable inRange keysDiffer quotasFit placesOwned noneTwice noneAboveQuota lastBelowQuota unheardEmpty lengthsFit keysInRange sizesInRange sizesFit obeys orRefuse made openedInRange opened closed judged ownerIn forOwner sameEdition edited placeAmong receivedAt received byJudge arriving delivering delivered
 p10 = (rw (sealed-sound (eit11 0 0)), rw (sealed-sound (eit11 0 1)))
 
 p11 : Says P11
-unfolding ifLt ifEq kindOf _&_ _⇒_ all any sum first each sameKey isOf takenBy holds release emptyShelf quotaOf watchable inRange keysDiffer quotasFit placesOwned noneTwice noneAboveQuota lastBelowQuota unheardEmpty lengthsFit keysInRange sizesInRange sizesFit obeys orRefuse made openedInRange opened closed
+unfolding ifLt ifEq kindOf _&_ _⇒_ all any sum first each sameKey isOf holdsFor holds release emptyShelf quotaOf watchable inRange keysDiffer quotasFit placesOwned noneTwice noneAboveQuota lastBelowQuota unheardEmpty lengthsFit keysInRange sizesInRange sizesFit obeys orRefuse made openedInRange opened closed
 p11 = (refl, refl)
 
 p12 : Says P12
@@ -86,7 +87,7 @@ unfolding ifLt ifEq skipTo bitsTo fieldsTo then many ends after segment string s
 p12 = (refl, refl)
 
 p13 : Says P13
-unfolding headerBy ofKind lengthTests checksumTest numberTests ifLt ifEq kindOf sealed fourBytes sectionBy verdictBy withBody bodyTest bodyOf then many ends skipTo bitsTo fieldsTo unto segment string structure text sizedText content descriptor descriptors list12 eit events event _&_ _⇒_ all any sum first each sameKey isOf takenBy holds release emptyShelf quotaOf watchable inRange keysDiffer quotasFit placesOwned noneTwice noneAboveQuota lastBelowQuota unheardEmpty lengthsFit keysInRange sizesInRange sizesFit obeys orRefuse made openedInRange opened closed judged sameEdition edited placeFor takenAt taken byJudge delivering delivered
+unfolding headerBy ofKind lengthTests checksumTest numberTests ifLt ifEq kindOf sealed fourBytes sectionBy verdictBy withBody bodyTest bodyOf then many ends skipTo bitsTo fieldsTo unto segment string structure text sizedText content descriptor descriptors list12 eit events event _&_ _⇒_ all any sum first each sameKey isOf holdsFor holds release emptyShelf quotaOf watchable inRange keysDiffer quotasFit placesOwned noneTwice noneAboveQuota lastBelowQuota unheardEmpty lengthsFit keysInRange sizesInRange sizesFit obeys orRefuse made openedInRange opened closed judged ownerIn forOwner sameEdition edited placeAmong receivedAt received byJudge arriving delivering delivered
 p13 = (refl, (refl, (rw (sealed-sound (eit11 0 0)), refl)))
 
 pub shown : All marked

@@ -6,10 +6,11 @@ use native.Mathlib.Omega.{arith}
 use Rattle.logic.proofs.ChoiceLaws.{eq-no, eq-yes}
 use Rattle.logic.specs.Choices.{pick}
 use Rattle.refusal.specs.Outcomes.{refused, result}
-use Rattle.shelf_state.specs.Records.{watchAt}
+use Rattle.shelf_state.specs.declared.records.Edition.{Edition}
 use Rattle.shelf_state.specs.declared.records.Shelf.{Shelf}
 use Rattle.shelf.specs.Answers.{After, complete, part, unheard}
-use Rattle.shelf.specs.Calls.{countOf, heldNumbers, orRefuse, refusedBy, statusOf}
+use Rattle.shelf.specs.Calls.{orRefuse, refusedBy}
+use Rattle.shelf.specs.Views.{countOf, statusOf}
 
 -- a refusal is no result
 pub never : {A B : Type 0} (n : ℕ) (x : A) → refused n ≡ result x → B
@@ -33,20 +34,20 @@ unfolding orRefuse
 passed n s true rest x e = (refl, e)
 passed n s false rest x e = never n x e
 
-module _ (s : Shelf) (w : ℕ) where
-  pub status-unheard : watchAt s w .heard ≡ false → unheard ≡ statusOf s w
+module _ (e : Edition) where
+  pub status-unheard : (c : ℕ) → e .heard ≡ false → unheard ≡ statusOf e c
   unfolding statusOf
-  status-unheard e = rw e
+  status-unheard c h = rw h
 
-  module _ (c n : ℕ) (e : watchAt s w .heard ≡ true) (f : c ≡ heldNumbers s w) (g : n ≡ watchAt s w .last + 1) where
-    counted : countOf c n ≡ statusOf s w
+  module _ (c n d : ℕ) (h : e .heard ≡ true) (f : c ≡ d) (g : n ≡ e .last + 1) where
+    counted : countOf c n ≡ statusOf e d
     unfolding statusOf
-    counted = ap₂ countOf f g ∙ sym (ap (λ (b : Bool). pick b (countOf (heldNumbers s w) (watchAt s w .last + 1)) unheard) e)
+    counted = ap₂ countOf f g ∙ sym (ap (λ (b : Bool). pick b (countOf d (e .last + 1)) unheard) h)
 
-    pub status-complete : c ≡ n → complete n ≡ statusOf s w
+    pub status-complete : c ≡ n → complete n ≡ statusOf e d
     unfolding countOf
-    status-complete h = eq-yes c n (complete n) (part c n) h refl ∙ counted
+    status-complete q = eq-yes c n (complete n) (part c n) q refl ∙ counted
 
-    pub status-part : (c ≡ n → ⊥) → part c n ≡ statusOf s w
+    pub status-part : (c ≡ n → ⊥) → part c n ≡ statusOf e d
     unfolding countOf
-    status-part h = eq-no c n (complete n) (part c n) h refl ∙ counted
+    status-part q = eq-no c n (complete n) (part c n) q refl ∙ counted

@@ -14,12 +14,20 @@ use Rattle.shelf_state.proofs.WatchLaws.{Fits, at-other, at-same, new-rules}
 use Rattle.shelf_state.specs.Records.{asked, dropped, isOf, placeAt, release, setWatch, watchAt}
 use Rattle.shelf_state.specs.Rules.{quotaOf}
 use Rattle.shelf_state.specs.declared.records.Shelf.{Shelf}
+use Rattle.shelf_state.specs.declared.records.Edition.{Edition}
 use Rattle.shelf_state.specs.declared.records.Watch.{Watch}
-use Rattle.shelf.specs.Delivery.{edited, hearing, sameEdition}
+use Rattle.shelf.specs.Delivery.{edited, hearing}
+use Rattle.shelf.specs.Views.{editionOf, sameEdition}
 
-pub edition-is : (x : Watch) (h : Header) → sameEdition x h ≡ true → (x .heard ≡ true) × (x .version ≡ h .version) × (x .last ≡ h .last)
+pub edition-is : (x : Edition) (h : Header) → sameEdition x h ≡ true → x ≡ editionOf h
 unfolding sameEdition
-edition-is x h e = (and-left _ _ e, eqb-true _ _ (and-left _ _ (and-right _ _ e)), eqb-true _ _ (and-right _ _ (and-right _ _ e)))
+edition-is x h e =
+    ap₂ (λ (g : Bool) (n : ℕ). record { heard = g; version = n; last = x .last }) (and-left _ _ e) (eqb-true _ _ (and-left _ _ (and-right _ _ e)))
+    ∙ ap (λ (n : ℕ). record { heard = true; version = h .version; last = n }) (eqb-true _ _ (and-right _ _ (and-right _ _ e)))
+
+-- the same edition is heard: the record stays
+pub hearing-same : (x : Watch) (h : Header) → sameEdition (x .edition) h ≡ true → hearing x h ≡ x
+hearing-same x h e = ap (λ (y : Edition). record { live = x .live; key = x .key; quota = x .quota; edition = y }) (sym (edition-is (x .edition) h e))
 
 quota-hearing : (x : Watch) (h : Header) → quotaOf (hearing x h) ≡ quotaOf x
 unfolding quotaOf
@@ -52,28 +60,22 @@ module _ (s : Shelf) (area : ℕ) (r : Rules s area) (w : ℕ) (h : Header)
     pub own : watchAt t w ≡ hearing (watchAt s w) h
     pub other : (i : ℕ) → (i ≡ w → ⊥) → watchAt t i ≡ watchAt s i
     -- the places: those of the same edition stay, those of another are released
-    pub places : (i : ℕ) → i < s .count → placeAt t i ≡ pick (sameEdition (watchAt s w) h) (placeAt s i) (release w (placeAt s i))
+    pub places : (i : ℕ) → i < s .count → placeAt t i ≡ pick (sameEdition (watchAt s w .edition) h) (placeAt s i) (release w (placeAt s i))
 
   pub edited-facts : Edited (edited s w h)
   unfolding edited
-  edited-facts = go (sameEdition (watchAt s w) h) refl
+  edited-facts = go (sameEdition (watchAt s w .edition) h) refl
     where
-      go : (b : Bool) → sameEdition (watchAt s w) h ≡ b → Edited (pick b s (setWatch d w y))
+      go : (b : Bool) → sameEdition (watchAt s w .edition) h ≡ b → Edited (pick b s (setWatch d w y))
       go true e =
-          let x = edition-is (watchAt s w) h e in
           record {
             rules = r;
             records-same = refl;
             count-same = refl;
             other = λ i n. refl;
-            own = same (watchAt s w) x;
+            own = sym (hearing-same (watchAt s w) h e);
             places = λ i a. ap (λ (b : Bool). pick b (placeAt s i) (release w (placeAt s i))) (sym e);
           }
-        where
-          same : (x : Watch) → (x .heard ≡ true) × (x .version ≡ h .version) × (x .last ≡ h .last) → x ≡ hearing x h
-          same x f =
-              ap₂ (λ (g : Bool) (n : ℕ). record { live = x .live; key = x .key; quota = x .quota; heard = g; version = n; last = x .last }) (f .0) (f .1)
-              ∙ ap (λ (n : ℕ). record { live = x .live; key = x .key; quota = x .quota; heard = true; version = h .version; last = n }) (f .2)
       go false e = record {
         rules = new-rules d area (drop-rules s area r w) w y fits;
         records-same = refl;

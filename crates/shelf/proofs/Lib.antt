@@ -2,5 +2,6 @@ pub mod CallLaws
 pub mod EditLaws
 pub mod PlaceLaws
 pub mod JudgeLaws
-pub mod TakingLaws
+pub mod OwnerLaws
+pub mod InnerLaws
 pub mod OnceLaws

@@ -2,6 +2,7 @@
 use Prim.Native.Nat.{ℕ}
 use mathlib.Core.Path.{_≡_, refl, sym, ap, _∙_}
 use mathlib.Core.List.{List}
+use Rattle.part.specs.declared.Part.{Part}
 use Rattle.refusal.specs.declared.Refusal.{Refusal}
 use Rattle.refusal.specs.Numbers.{numberOf}
 use Rattle.refusal.specs.Outcomes.{Outcome, refused, result}
@@ -11,15 +12,15 @@ use Rattle.shelf.specs.declared.answers.Change.{Change}
 use Rattle.shelf.specs.declared.answers.Change.the-variants as changes
 use Rattle.shelf.specs.declared.answers.Progress.{Progress}
 use Rattle.shelf.specs.declared.answers.Progress.the-variants as progress
-use Rattle.shelf.specs.declared.answers.Kept.{Kept}
-use Rattle.shelf.specs.declared.answers.Kept.the-variants as kept
+use Rattle.shelf.specs.declared.answers.Fetched.{Fetched}
+use Rattle.shelf.specs.declared.answers.Fetched.the-variants as fetched
 use Rattle.shelf.specs.declared.answers.AfterChange.{AfterChange}
 use Rattle.shelf.specs.declared.answers.AfterStatus.{AfterStatus}
 use Rattle.shelf.specs.declared.answers.AfterFetch.{AfterFetch}
-use Rattle.shelf.specs.declared.delivery.Taking.{Taking}
-use Rattle.shelf.specs.declared.delivery.Taking.the-variants as taking
-use Rattle.shelf.specs.Answers.{Status, unheard, part, complete, Bytes, changeOutcome, statusOutcome, fetchOutcome, After, afterChange, afterStatus, afterFetch}
-use Rattle.shelf.specs.Delivery.{done, areaAfter, takingOutcome}
+use Rattle.shelf.specs.declared.delivery.Owner.{Owner}
+use Rattle.shelf.specs.declared.delivery.Owner.the-variants as owner
+use Rattle.shelf.specs.Answers.{Status, unheard, part, complete, changeOutcome, statusOutcome, fetchOutcome, After, afterChange, afterStatus, afterFetch}
+use Rattle.shelf.specs.Delivery.{done, areaAfter, ownerOutcome}
 
 change-told : Outcome (Unit {0}) → Change
 change-told (refused n) = changes.Refused (numbered n)
@@ -49,29 +50,29 @@ status-back (progress.Complete n) = refl
 pub status-once : (x y : Progress) → statusOutcome x ≡ statusOutcome y → x ≡ y
 status-once = once-by statusOutcome status-told status-back
 
-fetch-told : Outcome Bytes → Kept
-fetch-told (refused n) = kept.Refused (numbered n)
-fetch-told (result x) = kept.At (x .start) (x .length)
+fetch-told : Outcome Part → Fetched
+fetch-told (refused n) = fetched.Refused (numbered n)
+fetch-told (result p) = fetched.At p
 
-fetch-back : (x : Kept) → fetch-told (fetchOutcome x) ≡ x
+fetch-back : (x : Fetched) → fetch-told (fetchOutcome x) ≡ x
 unfolding fetch-told
-fetch-back (kept.Refused k) = ap kept.Refused (numbered-back k)
-fetch-back (kept.At a n) = refl
+fetch-back (fetched.Refused k) = ap fetched.Refused (numbered-back k)
+fetch-back (fetched.At p) = refl
 
-pub fetch-once : (x y : Kept) → fetchOutcome x ≡ fetchOutcome y → x ≡ y
+pub fetch-once : (x y : Fetched) → fetchOutcome x ≡ fetchOutcome y → x ≡ y
 fetch-once = once-by fetchOutcome fetch-told fetch-back
 
-taking-told : Outcome ℕ → Taking
-taking-told (refused n) = taking.Refused (numbered n)
-taking-told (result x) = taking.At x
+owner-told : Outcome ℕ → Owner
+owner-told (refused n) = owner.Refused (numbered n)
+owner-told (result x) = owner.Of x
 
-taking-back : (x : Taking) → taking-told (takingOutcome x) ≡ x
-unfolding taking-told
-taking-back (taking.Refused k) = ap taking.Refused (numbered-back k)
-taking-back (taking.At i) = refl
+owner-back : (x : Owner) → owner-told (ownerOutcome x) ≡ x
+unfolding owner-told
+owner-back (owner.Refused k) = ap owner.Refused (numbered-back k)
+owner-back (owner.Of i) = refl
 
-pub taking-once : (x y : Taking) → takingOutcome x ≡ takingOutcome y → x ≡ y
-taking-once = once-by takingOutcome taking-told taking-back
+pub owner-once : (x y : Owner) → ownerOutcome x ≡ ownerOutcome y → x ≡ y
+owner-once = once-by ownerOutcome owner-told owner-back
 
 -- ---- an answer and a shelf
 pub after-change-once : (x y : AfterChange) → afterChange x ≡ afterChange y → x ≡ y
@@ -86,7 +87,7 @@ after-status-once x y e =
 
 pub after-fetch-once : (x y : AfterFetch) → afterFetch x ≡ afterFetch y → x ≡ y
 after-fetch-once x y e =
-    let a = fetch-once (x .answer) (y .answer) (ap (λ (r : After Bytes). r .outcome) e) in
+    let a = fetch-once (x .answer) (y .answer) (ap (λ (r : After Part). r .outcome) e) in
     λ i. record { answer = a i; shelf = e i .shelf }
 
 -- ---- the area of a delivery that is refused

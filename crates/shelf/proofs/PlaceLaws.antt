@@ -14,12 +14,12 @@ use Rattle.shelf_state.proofs.RuleLaws.{Owned, Rules, one-place, room-left}
 use Rattle.shelf_state.specs.Records.{blankPlace, freePlace, holds, isHeld, placeAt, placeOf, watchAt}
 use Rattle.shelf_state.specs.declared.records.Place.{Place}
 use Rattle.shelf_state.specs.declared.records.Shelf.{Shelf}
-use Rattle.shelf.specs.Delivery.{keeping, placeFor, stored}
+use Rattle.shelf.specs.Delivery.{keeping, placeAmong, placeFor, stored}
 
 module _ (s : Shelf) (area : ℕ) (r : Rules s area) (w m : ℕ) where
   -- it is the place of the section, or a free one
   pub chosen : placeFor s w m < s .count → (holds (placeAt s (placeFor s w m)) w m ≡ true) ⊎ (placeAt s (placeFor s w m) .used ≡ false)
-  unfolding placeFor
+  unfolding placeAmong
   chosen = go (isHeld s w m) refl
     where
       go : (b : Bool) → isHeld s w m ≡ b → pick b (placeOf s w m) (freePlace s) < s .count
@@ -29,7 +29,7 @@ module _ (s : Shelf) (area : ℕ) (r : Rules s area) (w m : ℕ) where
 
   -- no other place holds the section
   pub only : (k : ℕ) → k < s .count → (k ≡ placeFor s w m → ⊥) → holds (placeAt s k) w m ≡ false
-  unfolding placeFor
+  unfolding placeAmong
   only k a n = isnt (holds (placeAt s k) w m) (λ e.
       let p : ℕ → Bool = (λ i. holds (placeAt s i) w m) in
       let t : isHeld s w m ≡ true = any-at p (s .count) k a e in
@@ -39,7 +39,7 @@ module _ (s : Shelf) (area : ℕ) (r : Rules s area) (w m : ℕ) where
 
   -- an open watch that takes a number below its quota has a place for it
   pub place-below : w < s .records → watchAt s w .live ≡ true → m < watchAt s w .quota → placeFor s w m < s .count
-  unfolding placeFor
+  unfolding placeAmong
   place-below l v q = ⊎-elim
       (λ e. subst (λ (b : Bool). pick b (placeOf s w m) (freePlace s) < s .count) (sym e) (ltb-true (placeOf s w m) (s .count) (sym (any-first (λ i. holds (placeAt s i) w m) (s .count)) ∙ e)))
       (λ e. subst (λ (b : Bool). pick b (placeOf s w m) (freePlace s) < s .count) (sym e) (room-left s area r w m l v q (none-at (λ i. holds (placeAt s i) w m) (s .count) e)))
@@ -65,7 +65,7 @@ module _ (s : Shelf) (area : ℕ) (r : Rules s area) (w m n : ℕ) (below : plac
       (λ e. subst (P i) (sym (stored-other i e)) (old i e))
       (same-or-not i j)
 
-  module _ (l : w < s .records) (v : watchAt s w .live ≡ true) (g : watchAt s w .heard ≡ true) (up : m ≤ watchAt s w .last) (small : n ≤ 4096) where
+  module _ (l : w < s .records) (v : watchAt s w .live ≡ true) (g : watchAt s w .edition .heard ≡ true) (up : m ≤ watchAt s w .edition .last) (small : n ≤ 4096) where
     -- nothing else holds the new number
     new-first : (k : ℕ) → (k ≡ j → ⊥) → k < s .count → placeAt s k .used ≡ true → holds (keeping w m n) (placeAt s k .watch) (placeAt s k .number) ≡ false
     new-first k e a f = isnt (holds (keeping w m n) (placeAt s k .watch) (placeAt s k .number)) (λ t.

@@ -2,15 +2,16 @@
 use Prim.Native.Nat.{ℕ, _+_, _*_}
 use mathlib.Core.Bool.{Bool, true, false, not}
 use lib.Dec.{leb}
-use Rattle.logic.specs.Choices.{pick, ifEq}
+use Rattle.part.specs.declared.Part.{Part}
 use Rattle.refusal.specs.Outcomes.{refused, result}
 use Rattle.logic.specs.Loops.{any, count}
-use Rattle.shelf_state.specs.Records.{blankWatch, watchAt, placeAt, keyOf, watched, watchOf, freeRecord, isHeld, placeOf, setWatch, dropped, emptyShelf}
+use Rattle.shelf_state.specs.Records.{noEdition, blankWatch, watchAt, placeAt, keyOf, watched, watchOf, freeRecord, isHeld, placeOf, setWatch, dropped, emptyShelf}
 use Rattle.shelf_state.specs.Rules.{promised, inRange, sizesInRange, obeys}
 use Rattle.shelf_state.specs.declared.records.Asked.{Asked}
 use Rattle.shelf_state.specs.declared.records.Watch.{Watch}
 use Rattle.shelf_state.specs.declared.records.Shelf.{Shelf}
-use Rattle.shelf.specs.Answers.{After, Status, unheard, part, complete, Bytes}
+use Rattle.shelf.specs.Answers.{After, Status}
+use Rattle.shelf.specs.Views.{statusOf}
 
 -- ---- how a call ends
 -- by a refusal, the shelf as it was; by its values and a shelf
@@ -31,7 +32,7 @@ made places records = orRefuse 14 (emptyShelf 0 0) (sizesInRange places records)
 
 -- ---- opening: 14, 15, 19, 20, 21. The lowest free record is taken
 abbrev pub fresh : Asked → ℕ → Watch
-fresh a q = record { live = true; key = keyOf a; quota = q; heard = false; version = 0; last = 0 }
+fresh a q = record { live = true; key = keyOf a; quota = q; edition = noEdition }
 
 unfoldable pub openedInRange : Shelf → Asked → ℕ → After (Unit {0})
 openedInRange s a q =
@@ -54,29 +55,23 @@ closed s area a =
     (answered tt (setWatch (dropped s (watchOf s a)) (watchOf s a) blankWatch)))
 
 -- ---- status: 14, 17
--- c is how many numbers from 0 to last are held, n is last + 1
+-- how many numbers from 0 to last are held
 unfoldable pub heldNumbers : Shelf → ℕ → ℕ
-heldNumbers s w = count (watchAt s w .last + 1) (λ m. isHeld s w m)
-
-unfoldable pub countOf : ℕ → ℕ → Status
-countOf c n = ifEq c n (complete n) (part c n)
-
-unfoldable pub statusOf : Shelf → ℕ → Status
-statusOf s w = pick (watchAt s w .heard) (countOf (heldNumbers s w) (watchAt s w .last + 1)) unheard
+heldNumbers s w = count (watchAt s w .edition .last + 1) (λ m. isHeld s w m)
 
 unfoldable pub statusAfter : Shelf → ℕ → Asked → After Status
 statusAfter s area a =
     orRefuse 14 s (obeys s area)
     (orRefuse 17 s (watched s a)
-    (answered (statusOf s (watchOf s a)) s))
+    (answered (statusOf (watchAt s (watchOf s a) .edition) (heldNumbers s (watchOf s a))) s))
 
 -- ---- fetching: 14, 17, 22
-unfoldable pub fetchedFrom : Shelf → ℕ → ℕ → After Bytes
+unfoldable pub fetchedFrom : Shelf → ℕ → ℕ → After Part
 fetchedFrom s w m =
     orRefuse 22 s (isHeld s w m)
     (answered (record { start = placeOf s w m * 4096; length = placeAt s (placeOf s w m) .length }) s)
 
-unfoldable pub fetched : Shelf → ℕ → Asked → ℕ → After Bytes
+unfoldable pub fetched : Shelf → ℕ → Asked → ℕ → After Part
 fetched s area a m =
     orRefuse 14 s (obeys s area)
     (orRefuse 17 s (watched s a)

@@ -1,54 +1,52 @@
 -- SCOPE 5.5 and 5.6: what a delivered section does to the shelf and its area. SCOPE 6.2, its order: 14, 15, 1 to 9, 16, 17, 18.
 use Prim.Native.Nat.{ℕ, _+_, _*_, _≤_, _<_}
 use mathlib.Core.Path.{_≡_}
-use mathlib.Core.Bool.{Bool, true, not}
+use mathlib.Core.Bool.{true}
 use mathlib.Core.List.{List}
 use lib.Dec.{leb, eqb}
 use lib.ListN.{length}
 use lib.Seq.{paste}
 use Rattle.logic.specs.Choices.{pick}
-use Rattle.bytes_at.specs.Fields.{byteAt, wordAt}
-use Rattle.kind.specs.Kinds.{kindOf}
+use Rattle.logic.specs.Loops.{any}
 use Rattle.refusal.specs.Numbers.{numberOf}
 use Rattle.refusal.specs.Outcomes.{Outcome, refused, result}
 use Rattle.section.specs.declared.header.Header.{Header}
-use Rattle.section.specs.Sections.{sectionBy}
-use Rattle.logic.specs.Loops.{_&_}
-use Rattle.shelf_state.specs.Records.{watchAt, watched, watchOf, isHeld, placeOf, freePlace, setWatch, setPlace, dropped}
+use Rattle.shelf_state.specs.Records.{watchIn, watchAt, placeIn, isOf, findWatch, holds, findPlace, firstFree, setWatch, setPlace, dropped}
 use Rattle.shelf_state.specs.Rules.{obeys}
 use Rattle.shelf_state.specs.declared.records.Asked.{Asked}
+use Rattle.shelf_state.specs.declared.records.Edition.{Edition}
 use Rattle.shelf_state.specs.declared.records.Watch.{Watch}
 use Rattle.shelf_state.specs.declared.records.Place.{Place}
 use Rattle.shelf_state.specs.declared.records.Shelf.{Shelf}
 use Rattle.shelf.specs.Answers.{After}
 use Rattle.shelf.specs.Calls.{refusedBy, answered, orRefuse}
-use Rattle.shelf.specs.declared.delivery.Taking.{Taking}
-use Rattle.shelf.specs.declared.delivery.Taking.the-variants.{At}
-use Rattle.shelf.specs.declared.delivery.Taking.the-variants as T
-use Rattle.shelf.specs.declared.delivery.AfterTaking.{AfterTaking}
+use Rattle.shelf.specs.Views.{judged, keyIn, editionOf, sameEdition}
+use Rattle.shelf.specs.declared.delivery.Owner.{Owner}
+use Rattle.shelf.specs.declared.delivery.Owner.the-variants.{Of}
+use Rattle.shelf.specs.declared.delivery.Owner.the-variants as O
 
--- ---- the section: its tests 1 to 9 and its key
-unfoldable pub judged : List ℕ → Outcome Header
-judged b = sectionBy kindOf b
-
--- a key is made here, of a PID and a section's bytes
-abbrev pub keyIn : ℕ → List ℕ → Asked
-keyIn pid b = record { pid = pid; «table_id» = byteAt b 0; extension = wordAt b 3 }
+-- ---- the watch that a section goes to: 16, 17, 18
+unfoldable pub ownerIn : List Watch → ℕ → Asked → Header → Outcome ℕ
+ownerIn ws n a h =
+    pick (eqb (h .current) 0) (refused 16)
+    (pick (any n (λ i. isOf (watchIn ws i) a))
+    (pick (leb (h .last + 1) (watchIn ws (findWatch ws n a) .quota)) (result (findWatch ws n a)) (refused 18))
+    (refused 17))
 
 -- ---- the edition
-unfoldable pub sameEdition : Watch → Header → Bool
-sameEdition w h = w .heard & eqb (w .version) (h .version) & eqb (w .last) (h .last)
-
 abbrev pub hearing : Watch → Header → Watch
-hearing w h = record { live = w .live; key = w .key; quota = w .quota; heard = true; version = h .version; last = h .last }
+hearing w h = record { live = w .live; key = w .key; quota = w .quota; edition = editionOf h }
 
 -- if the edition differs, all the watch's sections are dropped first
 unfoldable pub edited : Shelf → ℕ → Header → Shelf
-edited s w h = pick (sameEdition (watchAt s w) h) s (setWatch (dropped s w) w (hearing (watchAt s w) h))
+edited s w h = pick (sameEdition (watchAt s w .edition) h) s (setWatch (dropped s w) w (hearing (watchAt s w) h))
 
 -- ---- the place: of the section with its number, or the lowest free one
-unfoldable pub placeFor : Shelf → ℕ → ℕ → ℕ
-placeFor s w m = pick (isHeld s w m) (placeOf s w m) (freePlace s)
+unfoldable pub placeAmong : List Place → ℕ → ℕ → ℕ → ℕ
+placeAmong ps k w m = pick (any k (λ i. holds (placeIn ps i) w m)) (findPlace ps k w m) (firstFree ps k)
+
+abbrev pub placeFor : Shelf → ℕ → ℕ → ℕ
+placeFor s w m = placeAmong (s .places) (s .count) w m
 
 abbrev pub keeping : ℕ → ℕ → ℕ → Place
 keeping w m n = record { used = true; watch = w; number = m; length = n }
@@ -56,28 +54,28 @@ keeping w m n = record { used = true; watch = w; number = m; length = n }
 abbrev pub stored : Shelf → ℕ → ℕ → ℕ → Shelf
 stored s w m n = setPlace s (placeFor s w m) (keeping w m n)
 
--- ---- the shelf after a section of n bytes, and the place that it takes: 16, 17, 18
-unfoldable pub takenAt : Shelf → ℕ → Header → ℕ → After ℕ
-takenAt s w h n =
-    orRefuse 18 s (leb (h .last + 1) (watchAt s w .quota))
-    (answered (placeFor (edited s w h) w (h .number)) (stored (edited s w h) w (h .number) n))
+-- ---- the shelf after a section of n bytes, and the place where it stands
+unfoldable pub receivedAt : Shelf → ℕ → Header → ℕ → After ℕ
+receivedAt s w h n = answered (placeFor (edited s w h) w (h .number)) (stored (edited s w h) w (h .number) n)
 
-unfoldable pub taken : Shelf → Asked → Header → ℕ → After ℕ
-taken s a h n =
-    orRefuse 16 s (not (eqb (h .current) 0))
-    (orRefuse 17 s (watched s a)
-    (takenAt s (watchOf s a) h n))
+unfoldable pub forOwner : Shelf → Header → ℕ → Outcome ℕ → After ℕ
+forOwner s h n (refused k) = refusedBy k s
+forOwner s h n (result w) = receivedAt s w h n
+
+unfoldable pub received : Shelf → Asked → Header → ℕ → After ℕ
+received s a h n = forOwner s h n (ownerIn (s .watches) (s .records) a h)
 
 -- 1 to 9, as the judge says
 unfoldable pub byJudge : Shelf → ℕ → List ℕ → Outcome Header → After ℕ
 byJudge s pid b (refused k) = refusedBy k s
-byJudge s pid b (result h) = taken s (keyIn pid b) h (length b)
+byJudge s pid b (result h) = received s (keyIn pid b) h (length b)
+
+-- what arrives, on a shelf that obeys its rules
+unfoldable pub arriving : Shelf → ℕ → List ℕ → After ℕ
+arriving s pid b = orRefuse 15 s (leb pid 8191) (byJudge s pid b (judged b))
 
 unfoldable pub delivering : Shelf → ℕ → ℕ → List ℕ → After ℕ
-delivering s area pid b =
-    orRefuse 14 s (obeys s area)
-    (orRefuse 15 s (leb pid 8191)
-    (byJudge s pid b (judged b)))
+delivering s area pid b = orRefuse 14 s (obeys s area) (arriving s pid b)
 
 -- ---- the answer tells no place
 abbrev pub done : Outcome ℕ → Outcome (Unit {0})
@@ -96,12 +94,9 @@ areaAfter area b (refused k) = area
 areaAfter area b (result i) = paste area (i * 4096) b (length b)
 
 -- ---- what the code's inner answer means
-abbrev pub takingOutcome : Taking → Outcome ℕ
-takingOutcome (T.Refused k) = refused (numberOf k)
-takingOutcome (At i) = result i
-
-abbrev pub afterTaking : AfterTaking → After ℕ
-afterTaking r = record { outcome = takingOutcome (r .answer); shelf = r .shelf }
+abbrev pub ownerOutcome : Owner → Outcome ℕ
+ownerOutcome (O.Refused k) = refused (numberOf k)
+ownerOutcome (Of w) = result w
 
 -- ---- what the functions under the judge ask of a section of n bytes: they hold of every section that passes
 pub record Sound (h : Header) (n : ℕ) : Type 0 where
@@ -110,8 +105,13 @@ pub record Sound (h : Header) (n : ℕ) : Type 0 where
   pub size : n ≤ 4096
 
 -- and of its watch
-pub record Ready (s : Shelf) (w : ℕ) (h : Header) (n : ℕ) : Type 0 where
-  pub rules : obeys s (s .count * 4096) ≡ true
+pub record Ready (s : Shelf) (w : ℕ) (h : Header) (area n : ℕ) : Type 0 where
+  pub rules : obeys s area ≡ true
   pub below : w < s .records
   pub live : watchAt s w .live ≡ true
+  pub quota : h .last < watchAt s w .quota
   pub sound : Sound h n
+
+-- how many places are searched for sections to drop
+unfoldable pub droppedBelow : Edition → Header → ℕ → ℕ
+droppedBelow e h places = pick (sameEdition e h) 0 places

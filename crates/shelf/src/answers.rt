@@ -1,4 +1,5 @@
 // What the calls answer. A shelf stands beside each answer: every call is a function from a shelf to an answer and a shelf.
+use part::Part;
 use refusal::Refusal;
 use shelf_state::Shelf;
 
@@ -15,9 +16,9 @@ pub enum Progress {
 }
 
 // Where a kept section's bytes stand in the area.
-pub enum Kept {
+pub enum Fetched {
     Refused(Refusal),
-    At { start: usize, length: usize },
+    At(Part),
 }
 
 pub struct AfterChange {
@@ -31,6 +32,6 @@ pub struct AfterStatus {
 }
 
 pub struct AfterFetch {
-    pub answer: Kept,
+    pub answer: Fetched,
     pub shelf: Shelf,
 }

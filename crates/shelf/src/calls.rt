@@ -3,25 +3,24 @@ use crate::answers::AfterChange;
 use crate::answers::AfterFetch;
 use crate::answers::AfterStatus;
 use crate::answers::Change;
-use crate::answers::Kept;
+use crate::answers::Fetched;
 use crate::answers::Progress;
+use crate::inner::fetch_from;
+use crate::inner::progress_of;
 use refusal::Refusal;
 use shelf_state::Asked;
 use shelf_state::Shelf;
 use shelf_state::Watch;
 use shelf_state::in_range;
 use shelf_state::inner::blank_watch;
-use shelf_state::inner::drop_all;
 use shelf_state::inner::empty_shelf;
 use shelf_state::inner::find_watch;
 use shelf_state::inner::free_record;
-use shelf_state::inner::held_by;
 use shelf_state::inner::key_of;
-use shelf_state::inner::place_of;
+use shelf_state::inner::no_edition;
+use shelf_state::inner::renew;
 use shelf_state::inner::room;
 use shelf_state::inner::set_watch;
-use shelf_state::inner::wide;
-use shelf_state::inner::wide_word;
 use shelf_state::obeys_rules;
 use shelf_state::sizes_in_range;
 ghost use mathlib.Core.Path.{_≡_};
@@ -29,10 +28,9 @@ ghost use mathlib.Core.Bool.{true};
 ghost use Prim.Native.Nat.{_≤_, _<_};
 ghost use lib.ListN.{length};
 ghost use Rattle.shelf_state.specs.Records.{blankWatch, setWatch, dropped};
-ghost use Rattle.shelf_state.specs.Rules.{inRange, heldBy};
-ghost use Rattle.shelf.specs.Answers.{statusOutcome, afterChange, afterStatus, afterFetch};
-ghost use Rattle.shelf.specs.Calls.{made, fresh, openedInRange, opened, closed, heldNumbers, statusOf, statusAfter, fetchedFrom, fetched};
-ghost use Rattle.refusal.specs.Outcomes.{result};
+ghost use Rattle.shelf_state.specs.Rules.{inRange};
+ghost use Rattle.shelf.specs.Answers.{afterChange, afterStatus, afterFetch};
+ghost use Rattle.shelf.specs.Calls.{made, fresh, openedInRange, opened, closed, statusAfter, fetched};
 
 // A shelf with nothing on it.
 pub fn empty(places: usize, records: usize) -> AfterChange
@@ -59,9 +57,7 @@ fn fresh_watch(a: Asked, quota: usize) -> Watch
         live: true,
         key: key_of(a),
         quota: quota as u8,
-        heard: false,
-        version: 0,
-        last: 0,
+        edition: no_edition(),
     }
 }
 
@@ -70,21 +66,22 @@ fn open_in_range(s: Shelf, a: Asked, quota: usize) -> AfterChange
     requires { ⌜ (s .records ≤ 16) × (inRange a quota ≡ true) ⌝ }
     ensures { λ r. ⌜ afterChange r ≡ openedInRange s a quota ⌝ }
 {
+    let ws = s.watches;
     let n = s.records;
-    if find_watch(s, n, a) < n {
+    if find_watch(ws, n, a) < n {
         return AfterChange {
             answer: Change::Refused(Refusal::AlreadyWatched),
             shelf: s,
         };
     }
-    let f = free_record(s);
+    let f = free_record(ws, n);
     if f >= n {
         return AfterChange {
             answer: Change::Refused(Refusal::NoRecordLeft),
             shelf: s,
         };
     }
-    if !room(s, quota) {
+    if !room(ws, n, s.count, quota) {
         return AfterChange {
             answer: Change::Refused(Refusal::NoPlacesLeft),
             shelf: s,
@@ -120,9 +117,7 @@ fn without(s: Shelf, w: usize) -> Shelf
     requires { ⌜ (w < 16) × (s .count ≤ 64) ⌝ }
     ensures { λ r. ⌜ r ≡ setWatch (dropped s w) w blankWatch ⌝ }
 {
-    let t = drop_all(s, w);
-    let b = blank_watch();
-    set_watch(t, w, b)
+    renew(s, w, blank_watch())
 }
 
 pub fn close(s: Shelf, area: &[u8], a: Asked) -> AfterChange
@@ -134,8 +129,9 @@ pub fn close(s: Shelf, area: &[u8], a: Asked) -> AfterChange
             shelf: s,
         };
     }
+    let ws = s.watches;
     let n = s.records;
-    let w = find_watch(s, n, a);
+    let w = find_watch(ws, n, a);
     if w >= n {
         return AfterChange {
             answer: Change::Refused(Refusal::NotWatched),
@@ -148,23 +144,6 @@ pub fn close(s: Shelf, area: &[u8], a: Asked) -> AfterChange
     }
 }
 
-// The status of a watch: on a shelf that obeys its rules the places it holds are as many as its numbers.
-fn progress_of(s: Shelf, w: usize) -> Progress
-    requires { ⌜ (w < 16) × (s .count ≤ 64) × (heldBy s w ≡ heldNumbers s w) ⌝ }
-    ensures { λ r. ⌜ statusOutcome r ≡ result (statusOf s w) ⌝ }
-{
-    let x = s.watches[w];
-    if x.heard {
-        let n = wide(x.last) + 1;
-        let held = held_by(s, w);
-        if held == n {
-            return Progress::Complete { of: n };
-        }
-        return Progress::Part { held, of: n };
-    }
-    Progress::NothingHeard
-}
-
 pub fn status(s: Shelf, area: &[u8], a: Asked) -> AfterStatus
     ensures { λ r. ⌜ afterStatus r ≡ statusAfter s (length (now (area .entry))) a ⌝ }
 {
@@ -174,8 +153,9 @@ pub fn status(s: Shelf, area: &[u8], a: Asked) -> AfterStatus
             shelf: s,
         };
     }
+    let ws = s.watches;
     let n = s.records;
-    let w = find_watch(s, n, a);
+    let w = find_watch(ws, n, a);
     if w >= n {
         return AfterStatus {
             answer: Progress::Refused(Refusal::NotWatched),
@@ -188,43 +168,21 @@ pub fn status(s: Shelf, area: &[u8], a: Asked) -> AfterStatus
     }
 }
 
-// 22, or where the section is kept.
-fn fetch_from(s: Shelf, w: usize, number: usize) -> AfterFetch
-    requires { ⌜ s .count ≤ 64 ⌝ }
-    ensures { λ r. ⌜ afterFetch r ≡ fetchedFrom s w number ⌝ }
-{
-    let n = s.count;
-    let i = place_of(s, w, number);
-    if i >= n {
-        return AfterFetch {
-            answer: Kept::Refused(Refusal::NotHeld),
-            shelf: s,
-        };
-    }
-    let p = s.places[i];
-    AfterFetch {
-        answer: Kept::At {
-            start: i * 4096,
-            length: wide_word(p.length),
-        },
-        shelf: s,
-    }
-}
-
 pub fn fetch(s: Shelf, area: &[u8], a: Asked, number: usize) -> AfterFetch
     ensures { λ r. ⌜ afterFetch r ≡ fetched s (length (now (area .entry))) a number ⌝ }
 {
     if !obeys_rules(s, area) {
         return AfterFetch {
-            answer: Kept::Refused(Refusal::ShelfBroken),
+            answer: Fetched::Refused(Refusal::ShelfBroken),
             shelf: s,
         };
     }
+    let ws = s.watches;
     let n = s.records;
-    let w = find_watch(s, n, a);
+    let w = find_watch(ws, n, a);
     if w >= n {
         return AfterFetch {
-            answer: Kept::Refused(Refusal::NotWatched),
+            answer: Fetched::Refused(Refusal::NotWatched),
             shelf: s,
         };
     }

@@ -8,14 +8,14 @@ use section::Head;
 use section::Header;
 use section::judge_any;
 use shelf_state::Asked;
+use shelf_state::Edition;
 use shelf_state::Place;
 use shelf_state::Shelf;
 use shelf_state::Watch;
-use shelf_state::inner::drop_all;
+use shelf_state::inner::find_place;
 use shelf_state::inner::find_watch;
 use shelf_state::inner::free_place;
-use shelf_state::inner::place_of;
-use shelf_state::inner::set_watch;
+use shelf_state::inner::released;
 use shelf_state::inner::wide;
 use shelf_state::obeys_rules;
 ghost use mathlib.Core.Path.{_≡_};
@@ -26,18 +26,13 @@ ghost use lib.Seq.{paste};
 ghost use Rattle.section.specs.Headers.{headOutcome};
 ghost use Rattle.shelf_state.specs.Rules.{obeys};
 ghost use Rattle.shelf.specs.Answers.{afterChange};
-ghost use Rattle.shelf.specs.Calls.{answered};
-ghost use Rattle.shelf.specs.Delivery.{judged, keyIn, sameEdition, hearing, edited, placeFor, stored, takenAt, taken, delivering, delivered, areaAfter, quiet, afterTaking, Sound, Ready};
+ghost use Rattle.shelf.specs.Delivery.{ownerIn, hearing, droppedBelow, placeAmong, keeping, receivedAt, received, arriving, delivering, delivered, areaAfter, quiet, ownerOutcome, Sound, Ready};
+ghost use Rattle.shelf.specs.Views.{judged, keyIn, editionOf, sameEdition};
 
-// The place that a section takes.
-pub enum Taking {
+// The watch that a section goes to.
+pub enum Owner {
     Refused(Refusal),
-    At(usize),
-}
-
-pub struct AfterTaking {
-    pub answer: Taking,
-    pub shelf: Shelf,
+    Of(usize),
 }
 
 // The tests 1 to 9.
@@ -59,16 +54,27 @@ fn key_in(pid: usize, section: &[u8]) -> Asked
     }
 }
 
-fn same_edition(w: Watch, h: Header) -> bool
-    ensures { λ r. ⌜ r ≡ sameEdition w h ⌝ }
+fn same_edition(e: Edition, h: Header) -> bool
+    ensures { λ r. ⌜ r ≡ sameEdition e h ⌝ }
 {
-    if w.heard {
-        if wide(w.version) != h.version {
+    if e.heard {
+        if wide(e.version) != h.version {
             return false;
         }
-        return wide(w.last) == h.last;
+        return wide(e.last) == h.last;
     }
     false
+}
+
+fn edition_of(h: Header) -> Edition
+    requires { ⌜ (h .version < 256) × (h .last < 256) ⌝ }
+    ensures { λ r. ⌜ r ≡ editionOf h ⌝ }
+{
+    Edition {
+        heard: true,
+        version: h.version as u8,
+        last: h.last as u8,
+    }
 }
 
 fn hear(w: Watch, h: Header) -> Watch
@@ -80,95 +86,59 @@ fn hear(w: Watch, h: Header) -> Watch
         live: w.live,
         key: k,
         quota: w.quota,
-        heard: true,
-        version: h.version as u8,
-        last: h.last as u8,
+        edition: edition_of(h),
     }
 }
 
-// Another edition: the watch's sections are dropped.
-fn edit(s: Shelf, w: usize, h: Header) -> Shelf
-    requires { ⌜ (w < 16) × (s .count ≤ 64) × (h .version < 256) × (h .last < 256) ⌝ }
-    ensures { λ r. ⌜ r ≡ edited s w h ⌝ }
+// 16, 17 and 18, or the watch.
+fn find_owner(ws: [Watch; 16], n: usize, a: Asked, h: Header) -> Owner
+    requires { ⌜ n ≤ 16 ⌝ }
+    ensures { λ r. ⌜ ownerOutcome r ≡ ownerIn ws n a h ⌝ }
 {
-    let x = s.watches[w];
-    if same_edition(x, h) {
-        return s;
+    if h.current == 0 {
+        return Owner::Refused(Refusal::NotCurrent);
     }
-    let t = drop_all(s, w);
-    let y = hear(x, h);
-    set_watch(t, w, y)
+    let w = find_watch(ws, n, a);
+    if w >= n {
+        return Owner::Refused(Refusal::NotWatched);
+    }
+    let x = ws[w];
+    if h.last >= wide(x.quota) {
+        return Owner::Refused(Refusal::AboveQuota);
+    }
+    Owner::Of(w)
+}
+
+// How many places are searched for the watch's sections, to drop them: all where the edition is another.
+fn dropped_below(e: Edition, h: Header, places: usize) -> usize
+    ensures { λ r. ⌜ r ≡ droppedBelow e h places ⌝ }
+{
+    if same_edition(e, h) { 0 } else { places }
 }
 
 // The place with the section of this number, or the lowest free one.
-fn place_for(s: Shelf, w: usize, number: usize) -> usize
-    requires { ⌜ s .count ≤ 64 ⌝ }
-    ensures { λ r. ⌜ r ≡ placeFor s w number ⌝ }
+fn place_for(ps: [Place; 64], n: usize, w: usize, number: usize) -> usize
+    requires { ⌜ n ≤ 64 ⌝ }
+    ensures { λ r. ⌜ r ≡ placeAmong ps n w number ⌝ }
 {
-    let n = s.count;
-    let i = place_of(s, w, number);
+    let i = find_place(ps, n, w, number);
     if i < n {
         return i;
     }
-    free_place(s)
+    free_place(ps, n)
 }
 
-// The place's record.
-fn take_place(s: Shelf, w: usize, number: usize, length: usize) -> AfterTaking
-    requires { ⌜ (s .count ≤ 64) × (w < 256) × (number < 256) × (length < 65536) × (placeFor s w number < s .count) ⌝ }
-    ensures { λ r. ⌜ afterTaking r ≡ answered (placeFor s w number) (stored s w number length) ⌝ }
+// A place's record.
+fn place_record(w: usize, number: usize, length: usize) -> Place
+    requires { ⌜ (w < 256) × (number < 256) × (length < 65536) ⌝ }
+    ensures { λ r. ⌜ r ≡ keeping w number length ⌝ }
 {
-    let i = place_for(s, w, number);
-    let p = Place {
+    Place {
         used: true,
         watch: w as u8,
         number: number as u8,
         length: length as u16,
-    };
-    let mut t = s;
-    t.places[i] = p;
-    AfterTaking {
-        answer: Taking::At(i),
-        shelf: t,
     }
-}
-
-// 18, then the place.
-fn take_at(s: Shelf, w: usize, h: Header, length: usize) -> AfterTaking
-    requires { ⌜ Ready s w h length ⌝ }
-    ensures { λ r. ⌜ afterTaking r ≡ takenAt s w h length ⌝ }
-{
-    let x = s.watches[w];
-    if h.last >= wide(x.quota) {
-        return AfterTaking {
-            answer: Taking::Refused(Refusal::AboveQuota),
-            shelf: s,
-        };
-    }
-    let t = edit(s, w, h);
-    take_place(t, w, h.number, length)
-}
-
-// 16 and 17, then the watch.
-fn take(s: Shelf, a: Asked, h: Header, length: usize) -> AfterTaking
-    requires { ⌜ (obeys s (s .count * 4096) ≡ true) × Sound h length ⌝ }
-    ensures { λ r. ⌜ afterTaking r ≡ taken s a h length ⌝ }
-{
-    if h.current == 0 {
-        return AfterTaking {
-            answer: Taking::Refused(Refusal::NotCurrent),
-            shelf: s,
-        };
-    }
-    let n = s.records;
-    let w = find_watch(s, n, a);
-    if w >= n {
-        return AfterTaking {
-            answer: Taking::Refused(Refusal::NotWatched),
-            shelf: s,
-        };
-    }
-    take_at(s, w, h, length)
 }
 
 // The bytes, from a place of the area on.
@@ -183,40 +153,54 @@ fn store(area: &mut [u8], at: usize, bytes: &[u8])
     }
 }
 
-// A sound section is taken and its bytes stored, or refused.
-fn keep(s: Shelf, area: &mut [u8], a: Asked, h: Header, bytes: &[u8]) -> AfterChange
-    requires { ⌜ (obeys s (length (now area)) ≡ true) × Sound h (length (now bytes)) ⌝ }
-    ensures answer { λ r. ⌜ afterChange r ≡ quiet (taken s a h (length (now (bytes .entry)))) ⌝ }
-    ensures stored { λ r. ⌜ now (area .exit) ≡ areaAfter (now (area .entry)) (now (bytes .entry)) (taken s a h (length (now (bytes .entry))) .outcome) ⌝ }
+// A section is kept by its watch. One shelf is changed where it stands, since copies of it cost stack.
+fn receive(s: Shelf, area: &mut [u8], w: usize, h: Header, bytes: &[u8]) -> AfterChange
+    requires { ⌜ Ready s w h (length (now area)) (length (now bytes)) ⌝ }
+    ensures answer { λ r. ⌜ afterChange r ≡ quiet (receivedAt s w h (length (now (bytes .entry)))) ⌝ }
+    ensures stored { λ r. ⌜ now (area .exit) ≡ areaAfter (now (area .entry)) (now (bytes .entry)) (receivedAt s w h (length (now (bytes .entry))) .outcome) ⌝ }
 {
-    let r = take(s, a, h, bytes.len());
-    let shelf = r.shelf;
-    let answer = r.answer;
-    match answer {
-        Taking::Refused(k) => AfterChange {
-            answer: Change::Refused(k),
-            shelf,
-        },
-        Taking::At(i) => {
-            store(area, i * 4096, bytes);
-            AfterChange {
-                answer: Change::Done,
-                shelf,
-            }
-        }
+    let mut t = s;
+    let x = t.watches[w];
+    let n = dropped_below(x.edition, h, t.count);
+    t.watches[w] = hear(x, h);
+    let mut j = 0;
+    while j < n {
+        let p = released(t.places[j], w);
+        t.places[j] = p;
+        j += 1;
+    }
+    let ps = t.places;
+    let i = place_for(ps, t.count, w, h.number);
+    t.places[i] = place_record(w, h.number, bytes.len());
+    store(area, i * 4096, bytes);
+    AfterChange {
+        answer: Change::Done,
+        shelf: t,
     }
 }
 
-pub fn deliver(s: Shelf, area: &mut [u8], pid: usize, section: &[u8]) -> AfterChange
-    ensures answer { λ r. ⌜ afterChange r ≡ delivered s (length (now (area .entry))) pid (now (section .entry)) ⌝ }
-    ensures stored { λ r. ⌜ now (area .exit) ≡ areaAfter (now (area .entry)) (now (section .entry)) (delivering s (length (now (area .entry))) pid (now (section .entry)) .outcome) ⌝ }
+// A sound section is kept by its watch, or refused.
+fn keep(s: Shelf, area: &mut [u8], a: Asked, h: Header, bytes: &[u8]) -> AfterChange
+    requires { ⌜ (obeys s (length (now area)) ≡ true) × Sound h (length (now bytes)) ⌝ }
+    ensures answer { λ r. ⌜ afterChange r ≡ quiet (received s a h (length (now (bytes .entry)))) ⌝ }
+    ensures stored { λ r. ⌜ now (area .exit) ≡ areaAfter (now (area .entry)) (now (bytes .entry)) (received s a h (length (now (bytes .entry))) .outcome) ⌝ }
 {
-    if !obeys_rules(s, area) {
-        return AfterChange {
-            answer: Change::Refused(Refusal::ShelfBroken),
+    let ws = s.watches;
+    match find_owner(ws, s.records, a, h) {
+        Owner::Refused(k) => AfterChange {
+            answer: Change::Refused(k),
             shelf: s,
-        };
+        },
+        Owner::Of(w) => receive(s, area, w, h, bytes),
     }
+}
+
+// What arrives on a shelf that obeys its rules.
+fn arrive(s: Shelf, area: &mut [u8], pid: usize, section: &[u8]) -> AfterChange
+    requires { ⌜ obeys s (length (now area)) ≡ true ⌝ }
+    ensures answer { λ r. ⌜ afterChange r ≡ quiet (arriving s pid (now (section .entry))) ⌝ }
+    ensures stored { λ r. ⌜ now (area .exit) ≡ areaAfter (now (area .entry)) (now (section .entry)) (arriving s pid (now (section .entry)) .outcome) ⌝ }
+{
     if pid > 8191 {
         return AfterChange {
             answer: Change::Refused(Refusal::OutOfRange),
@@ -230,4 +214,17 @@ pub fn deliver(s: Shelf, area: &mut [u8], pid: usize, section: &[u8]) -> AfterCh
         },
         Head::Passes(h) => keep(s, area, key_in(pid, section), h, section),
     }
+}
+
+pub fn deliver(s: Shelf, area: &mut [u8], pid: usize, section: &[u8]) -> AfterChange
+    ensures answer { λ r. ⌜ afterChange r ≡ delivered s (length (now (area .entry))) pid (now (section .entry)) ⌝ }
+    ensures stored { λ r. ⌜ now (area .exit) ≡ areaAfter (now (area .entry)) (now (section .entry)) (delivering s (length (now (area .entry))) pid (now (section .entry)) .outcome) ⌝ }
+{
+    if !obeys_rules(s, area) {
+        return AfterChange {
+            answer: Change::Refused(Refusal::ShelfBroken),
+            shelf: s,
+        };
+    }
+    arrive(s, area, pid, section)
 }

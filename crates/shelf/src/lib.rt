@@ -2,12 +2,13 @@
 mod answers;
 mod calls;
 mod delivery;
+pub mod inner;
 
 pub use answers::AfterChange;
 pub use answers::AfterFetch;
 pub use answers::AfterStatus;
 pub use answers::Change;
-pub use answers::Kept;
+pub use answers::Fetched;
 pub use answers::Progress;
 pub use calls::close;
 pub use calls::empty;

@@ -1,82 +1,101 @@
--- Status and fetching: their answers are functions of the key's view, and the shelf stays as it was.
-use Prim.Native.Nat.{_*_, _+_, _<_, ℕ}
+-- What closing, status, fetching and delivery answer on a shelf that obeys its rules: functions of the key's view.
+use Prim.Native.Nat.{_*_, _+_, ℕ}
 use mathlib.Core.Path.{_∙_, _≡_, ap, refl, sym}
 use mathlib.Core.Bool.{Bool, false, true}
 use mathlib.Core.List.{List}
-use mathlib.Core.Option.{Option, none, some}
-use lib.ListN.{drop, length, take}
-use borrow.Author.Tests.{ltb-true}
+use mathlib.Core.Option.{none, some}
+use lib.Dec.{eqb, leb}
+use lib.ListN.{length}
 use Rattle.logic.specs.Choices.{pick}
-use Rattle.refusal.specs.Outcomes.{Outcome, refused, result}
-use Rattle.shelf.specs.Answers.{After, Bytes, Status, unheard}
-use Rattle.shelf.specs.Calls.{answered, countOf, fetched, fetchedFrom, heldNumbers, orRefuse, statusAfter, statusOf}
-use Rattle.shelf_laws.proofs.ViewLaws.{kept-held, view-none, view-some}
-use Rattle.shelf_laws.specs.Views.{View, atFirst, bytesAt, fetchV, heldV, isSome, keptAt, statusOfView, statusV, view, viewAt}
-use Rattle.logic.proofs.CountLaws.{sum-cong}
-use Rattle.logic.proofs.LoopLaws.{any-first, none-at}
 use Rattle.logic.specs.Loops.{one}
-use Rattle.shelf_state.specs.Records.{isHeld, isOf, placeAt, placeOf, watchAt, watchOf, watched}
+use Rattle.logic.proofs.CountLaws.{sum-cong}
+use Rattle.refusal.specs.Outcomes.{Outcome, refused, result}
+use Rattle.section.specs.declared.header.Header.{Header}
+use Rattle.shelf_state.specs.Records.{blankWatch, dropped, isHeld, placeAt, placeOf, setWatch, watchAt, watchOf, watched}
 use Rattle.shelf_state.specs.Rules.{obeys}
 use Rattle.shelf_state.specs.declared.records.Asked.{Asked}
 use Rattle.shelf_state.specs.declared.records.Shelf.{Shelf}
+use Rattle.shelf.specs.Answers.{After}
+use Rattle.shelf.specs.Calls.{answered, closed, fetched, fetchedFrom, heldNumbers, orRefuse, statusAfter}
+use Rattle.shelf.specs.Delivery.{arriving, byJudge, delivering, done, forOwner, ownerIn, received, receivedAt}
+use Rattle.shelf.specs.Steps.{fetchedBytes}
+use Rattle.shelf.specs.Views.{atFirst, bytesAt, bytesOr22, closingSays, currentOf, currentOn, deliverySays, fetchingSays, heldIn, isSome, judged, keptAt, keyIn, statusOf, statusSays, view, viewAt}
+use Rattle.shelf_laws.proofs.ViewLaws.{kept-held}
 
--- what a fetched part of the area holds
-abbrev pub bytesOf : List ℕ → Outcome Bytes → Outcome (List ℕ)
-bytesOf area (refused k) = refused k
-bytesOf area (result x) = result (take (x .length) (drop (x .start) area))
-
--- a refusal leaves the shelf, so a chain of them leaves what its end leaves
-untouched : {A : Type 0} (n : ℕ) (s : Shelf) (b : Bool) (rest : After A) → rest .shelf ≡ s → orRefuse n s b rest .shelf ≡ s
+-- 14 is not given
+passes : {A B : Type 0} (f : After A → B) (s : Shelf) (area : ℕ) → obeys s area ≡ true → (rest : After A) → f (orRefuse 14 s (obeys s area) rest) ≡ f rest
 unfolding orRefuse
-untouched n s true rest e = e
-untouched n s false rest e = refl
+passes f s area ok rest = ap (λ (b : Bool). f (orRefuse 14 s b rest)) ok
 
-module _ (s : Shelf) (area : List ℕ) (a : Asked) (ok : obeys s (length area) ≡ true) where
-  abbrev w : ℕ
-  w = watchOf s a
+module _ (s : Shelf) (area : List ℕ) (ok : obeys s (length area) ≡ true) where
+  module _ (a : Asked) where
+    abbrev w : ℕ
+    w = watchOf s a
 
-  found : watched s a ≡ true → w < s .records
-  found e = ltb-true w (s .records) (sym (any-first (λ i. isOf (watchAt s i) a) (s .records)) ∙ e)
+    pub closing-says : closed s (length area) a .outcome ≡ closingSays (view s area a)
+    unfolding closed orRefuse view atFirst
+    closing-says = passes (λ r. r .outcome) s (length area) ok _ ∙ go (watched s a)
+      where
+        go : (b : Bool) → orRefuse 17 s b (answered tt (setWatch (dropped s w) w blankWatch)) .outcome ≡ closingSays (pick b (some (viewAt s area w)) none)
+        go true = refl
+        go false = refl
 
-  missed : watched s a ≡ false → view s area a ≡ none
-  missed e = view-none s area a (none-at (λ i. isOf (watchAt s i) a) (s .records) e)
+    held-is : heldNumbers s w ≡ heldIn (viewAt s area w)
+    unfolding heldNumbers viewAt
+    held-is = sum-cong (watchAt s w .edition .last + 1) (λ m. one (isHeld s w m)) (λ m. one (isSome (keptAt s area w m))) (λ m _. ap one (sym (kept-held s area w m)))
 
-  status-is : statusOf s w ≡ statusOfView (viewAt s area w)
-  unfolding statusOf heldNumbers viewAt
-  status-is = ap (λ (c : ℕ). pick (watchAt s w .heard) (countOf c (watchAt s w .last + 1)) unheard)
-      (sum-cong (watchAt s w .last + 1) (λ m. one (isHeld s w m)) (λ m. one (isSome (keptAt s area w m))) (λ m _. ap one (sym (kept-held s area w m))))
+    pub status-says : statusAfter s (length area) a .outcome ≡ statusSays (view s area a)
+    unfolding statusAfter orRefuse view atFirst viewAt
+    status-says = passes (λ r. r .outcome) s (length area) ok _ ∙ go (watched s a)
+      where
+        go : (b : Bool) → orRefuse 17 s b (answered (statusOf (watchAt s w .edition) (heldNumbers s w)) s) .outcome ≡ statusSays (pick b (some (viewAt s area w)) none)
+        go true = ap (λ (c : ℕ). result (statusOf (watchAt s w .edition) c)) held-is
+        go false = refl
 
-  pub status-law : statusAfter s (length area) a ≡ record { outcome = statusV (view s area a); shelf = s }
-  unfolding statusAfter orRefuse
-  status-law =
-      ap (λ (b : Bool). orRefuse 14 s b (orRefuse 17 s (watched s a) (answered (statusOf s w) s))) ok
-      ∙ go (watched s a) refl
+    fetched-is : (m : ℕ) → fetchedBytes area (fetchedFrom s w m .outcome) ≡ bytesOr22 (keptAt s area w m)
+    unfolding fetchedFrom orRefuse keptAt atFirst
+    fetched-is m = go (isHeld s w m)
+      where
+        go : (b : Bool) → fetchedBytes area (orRefuse 22 s b (answered (record { start = placeOf s w m * 4096; length = placeAt s (placeOf s w m) .length }) s) .outcome)
+            ≡ bytesOr22 (pick b (some (record { bytes = bytesAt area (placeOf s w m) (placeAt s (placeOf s w m) .length) })) none)
+        go true = refl
+        go false = refl
+
+    pub fetching-says : (m : ℕ) → fetchedBytes area (fetched s (length area) a m .outcome) ≡ fetchingSays (view s area a) m
+    unfolding fetched orRefuse view atFirst viewAt
+    fetching-says m = passes (λ r. fetchedBytes area (r .outcome)) s (length area) ok _ ∙ go (watched s a)
+      where
+        go : (b : Bool) → fetchedBytes area (orRefuse 17 s b (fetchedFrom s w m) .outcome) ≡ fetchingSays (pick b (some (viewAt s area w)) none) m
+        go true = fetched-is m
+        go false = refl
+
+    -- 16, 17 and 18
+    received-says : (h : Header) (n : ℕ) → done (received s a h n .outcome) ≡ deliverySays (view s area a) (currentOf (result h))
+    unfolding received forOwner receivedAt ownerIn deliverySays view atFirst viewAt
+    received-says h n = owner (ownerIn (s .watches) (s .records) a h) ∙ go (eqb (h .current) 0) (watched s a)
+      where
+        owner : (o : Outcome ℕ) → done (forOwner s h n o .outcome) ≡ done o
+        owner (refused k) = refl
+        owner (result i) = refl
+
+        room : (b : Bool) → done (pick b (result w) (refused 18)) ≡ pick b (result tt) (refused 18)
+        room true = refl
+        room false = refl
+
+        go : (b c : Bool) → done (pick b (refused 16) (pick c (pick (leb (h .last + 1) (watchAt s w .quota)) (result w) (refused 18)) (refused 17)))
+            ≡ deliverySays (pick c (some (viewAt s area w)) none) (pick b (refused 16) (result h))
+        go true c = refl
+        go false true = room (leb (h .last + 1) (watchAt s w .quota))
+        go false false = refl
+
+  pub delivery-says : (pid : ℕ) (b : List ℕ) → done (delivering s (length area) pid b .outcome) ≡ deliverySays (view s area (keyIn pid b)) (currentOn pid b)
+  unfolding delivering arriving byJudge orRefuse currentOn deliverySays
+  delivery-says pid b = passes (λ r. done (r .outcome)) s (length area) ok _ ∙ range (leb pid 8191)
     where
-      go : (b : Bool) → watched s a ≡ b → orRefuse 17 s b (answered (statusOf s w) s) ≡ record { outcome = statusV (view s area a); shelf = s }
-      go true e =
-          ap (λ (x : Status). answered x s) status-is
-          ∙ ap (λ (v : Option View). record { outcome = statusV v; shelf = s }) (sym (view-some s area a (found e)))
-      go false e = ap (λ (v : Option View). record { outcome = statusV v; shelf = s }) (sym (missed e))
+      found : (o : Outcome Header) → done (byJudge s pid b o .outcome) ≡ deliverySays (view s area (keyIn pid b)) (currentOf o)
+      found (refused k) = refl
+      found (result h) = received-says (keyIn pid b) h (length b)
 
-  fetched-is : (m : ℕ) → bytesOf area (fetchedFrom s w m .outcome) ≡ heldV (keptAt s area w m)
-  unfolding fetchedFrom orRefuse keptAt atFirst
-  fetched-is m = go (isHeld s w m)
-    where
-      go : (b : Bool) → bytesOf area (orRefuse 22 s b (answered (record { start = placeOf s w m * 4096; length = placeAt s (placeOf s w m) .length }) s) .outcome)
-          ≡ heldV (pick b (some (bytesAt area (placeOf s w m) (placeAt s (placeOf s w m) .length))) none)
-      go true = refl
-      go false = refl
-
-  pub fetch-law : (m : ℕ) → bytesOf area (fetched s (length area) a m .outcome) ≡ fetchV (view s area a) m
-  unfolding fetched orRefuse viewAt
-  fetch-law m =
-      ap (λ (b : Bool). bytesOf area (orRefuse 14 s b (orRefuse 17 s (watched s a) (fetchedFrom s w m)) .outcome)) ok
-      ∙ go (watched s a) refl
-    where
-      go : (b : Bool) → watched s a ≡ b → bytesOf area (orRefuse 17 s b (fetchedFrom s w m) .outcome) ≡ fetchV (view s area a) m
-      go true e = fetched-is m ∙ ap (λ (v : Option View). fetchV v m) (sym (view-some s area a (found e)))
-      go false e = ap (λ (v : Option View). fetchV v m) (sym (missed e))
-
-  pub fetch-shelf : (m : ℕ) → fetched s (length area) a m .shelf ≡ s
-  unfolding fetched fetchedFrom
-  fetch-shelf m = untouched _ s _ _ (untouched _ s _ _ (untouched _ s _ _ refl))
+      range : (c : Bool) → done (orRefuse 15 s c (byJudge s pid b (judged b)) .outcome) ≡ deliverySays (view s area (keyIn pid b)) (pick c (currentOf (judged b)) (refused 15))
+      range true = found (judged b)
+      range false = refl

@@ -8,7 +8,7 @@ use lib.Dec.{ltb}
 use lib.ListN.{List·getD-append, drop, getD, length, length-drop, take, take-append-drop}
 use lib.Seq.{drop-at, ext-getD, getD-append-add, getD-drop, getD-take, length-paste, length-paste-head, length-take-le, paste, take-add, take-length, take-paste}
 use borrow.Author.Tests.{ltb-false, ltb-true}
-use Rattle.shelf_laws.specs.Views.{bytesAt}
+use Rattle.shelf.specs.Views.{bytesAt}
 use Rattle.logic.proofs.LoopLaws.{both}
 
 module _ (d : List ℕ) (at : ℕ) (s : List ℕ) (h : at + length s ≤ length d) where

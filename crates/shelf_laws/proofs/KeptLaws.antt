@@ -1,63 +1,77 @@
--- What a change of edition and a stored section leave of what every watch keeps.
+-- What dropped sections, a change of edition and a stored section leave of the places and of what every watch keeps.
 use Prim.Native.Nat.{_*_, _+_, _<_, _≤_, ℕ}
 use mathlib.Core.Path.{_∙_, _≡_, ap, refl, subst, sym}
 use mathlib.Core.Bool.{Bool, false, true}
 use mathlib.Core.List.{List}
 use mathlib.Core.Option.{none, some}
-use mathlib.Core.Logic.{⊎-elim}
+use mathlib.Core.Logic.{_⊎_, ⊎-elim}
 use native.Mathlib.Omega.{arith}
+use lib.Dec.{ltb}
 use lib.ListN.{length}
 use lib.Seq.{paste}
+use borrow.Author.Tests.{ltb-false, ltb-true}
 use Rattle.logic.specs.Choices.{pick}
+use Rattle.logic.proofs.LoopLaws.{both, each-past, isnt, same-or-not, true-false}
 use Rattle.section.specs.declared.header.Header.{Header}
-use Rattle.shelf.proofs.EditLaws.{Edited, edited-facts}
-use Rattle.shelf.proofs.PlaceLaws.{chosen, only, stored-other, stored-same}
-use Rattle.shelf.specs.Delivery.{edited, keeping, placeFor, sameEdition, stored}
-use Rattle.shelf_laws.proofs.AreaLaws.{other-place, paste-there}
-use Rattle.shelf_laws.proofs.ViewLaws.{at-only, kept-none, kept-same}
-use Rattle.shelf_laws.specs.Views.{bytesAt, keptAt}
-use Rattle.shelf_state.proofs.DropLaws.{drop-nobody, place-is, release-other}
-use Rattle.logic.proofs.LoopLaws.{isnt, same-or-not, true-false}
-use Rattle.shelf_state.proofs.RecordLaws.{holds-i, holds-parts}
-use Rattle.shelf_state.proofs.RuleLaws.{Rules}
-use Rattle.shelf_state.specs.Records.{holds, placeAt, release, takenBy, watchAt}
+use Rattle.shelf_state.specs.Records.{blankPlace, dropped, holds, holdsFor, placeAt, release, setWatch, watchAt}
 use Rattle.shelf_state.specs.declared.records.Place.{Place}
 use Rattle.shelf_state.specs.declared.records.Shelf.{Shelf}
+use Rattle.shelf_state.proofs.DropLaws.{drop-nobody, place-is, release-other}
+use Rattle.shelf_state.proofs.RecordLaws.{holds-i, holds-parts}
+use Rattle.shelf_state.proofs.RuleLaws.{Rules}
+use Rattle.shelf.specs.Delivery.{edited, hearing, keeping, placeFor, stored}
+use Rattle.shelf.specs.Views.{bytesAt, keptAt, sameEdition}
+use Rattle.shelf.proofs.PlaceLaws.{chosen, only, stored-other, stored-same}
+use Rattle.shelf_laws.proofs.AreaLaws.{other-place, paste-there}
+use Rattle.shelf_laws.proofs.ViewLaws.{at-only, kept-none, kept-same}
 
--- ---- another edition is heard
-module _ (s : Shelf) (area : List ℕ) (r : Rules s (length area)) (w : ℕ) (h : Header)
-    (l : w < s .records) (v : watchAt s w .live ≡ true) (q : h .last < watchAt s w .quota) where
-  abbrev t : Shelf
-  t = edited s w h
+-- ---- a watch's sections are dropped; another edition is heard
+release-not : (w : ℕ) (p : Place) → holdsFor p w ≡ false → release w p ≡ p
+unfolding release
+release-not w p e = rw e
 
-  facts : Edited s (length area) r w h l v q t
-  facts = edited-facts s (length area) r w h l v q
-
-  -- the places of a shelf whose edition stays or goes, by the test
-  by-edition : (b : Bool) → sameEdition (watchAt s w) h ≡ b → (i : ℕ) → i < s .count → placeAt t i ≡ pick b (placeAt s i) (release w (placeAt s i))
-  by-edition b e i a = facts .places i a ∙ ap (λ (x : Bool). pick x (placeAt s i) (release w (placeAt s i))) e
-
-  pub edited-own : (m : ℕ) → keptAt t area w m ≡ (pick (sameEdition (watchAt s w) h) (keptAt s area w) (λ _. none)) m
-  edited-own m = go (sameEdition (watchAt s w) h) refl
+module _ (s : Shelf) (n : ℕ) (r : Rules s n) (w : ℕ) where
+  -- a place beyond the sizes in use, or of another watch, stays
+  pub dropped-stays : (i : ℕ) → (s .count ≤ i) ⊎ (holdsFor (placeAt s i) w ≡ false) → placeAt (dropped s w) i ≡ placeAt s i
+  dropped-stays i = ⊎-elim past
+      (λ e. ⊎-elim (λ l. place-is s n r w i (ltb-true i (s .count) l) ∙ release-not w (placeAt s i) e) (λ l. past (ltb-false i (s .count) l)) (both (ltb i (s .count))))
     where
-      go : (b : Bool) → sameEdition (watchAt s w) h ≡ b → keptAt t area w m ≡ (pick b (keptAt s area w) (λ _. none)) m
-      go true e = kept-same s t area area w m (facts .count-same)
-          (λ i a. ap (λ (p : Place). holds p w m) (by-edition true e i a))
-          (λ i a _. ap (λ (p : Place). bytesAt area i (p .length)) (by-edition true e i a))
-      go false e = kept-none t area w m (λ i a.
-          let a′ : i < s .count = omega (arith, a, facts .count-same) in
-          ap (λ (p : Place). takenBy p w) (by-edition false e i a′ ∙ sym (place-is s (length area) r w i a′)) ∙ drop-nobody s (length area) r w i a′)
+      past : s .count ≤ i → placeAt (dropped s w) i ≡ placeAt s i
+      past l = each-past (release w) blankPlace (s .count) (s .places) i l
 
-  pub edited-other : (x m : ℕ) → (x ≡ w → ⊥) → keptAt t area x m ≡ keptAt s area x m
-  edited-other x m n = go (sameEdition (watchAt s w) h) refl
-    where
-      go : (b : Bool) → sameEdition (watchAt s w) h ≡ b → keptAt t area x m ≡ keptAt s area x m
-      go true e = kept-same s t area area x m (facts .count-same)
-          (λ i a. ap (λ (p : Place). holds p x m) (by-edition true e i a))
-          (λ i a _. ap (λ (p : Place). bytesAt area i (p .length)) (by-edition true e i a))
-      go false e = kept-same s t area area x m (facts .count-same)
-          (λ i a. ap (λ (p : Place). holds p x m) (by-edition false e i a) ∙ release-other w x (placeAt s i) m n .0)
-          (λ i a f. ap (λ (p : Place). bytesAt area i (p .length)) (by-edition false e i a ∙ release-other w x (placeAt s i) m n .1 f))
+  pub dropped-other : (area : List ℕ) (x m : ℕ) → (x ≡ w → ⊥) → keptAt (dropped s w) area x m ≡ keptAt s area x m
+  dropped-other area x m ne = kept-same s (dropped s w) area area x m refl
+      (λ i a. ap (λ (p : Place). holds p x m) (place-is s n r w i a) ∙ release-other w x (placeAt s i) m ne .0)
+      (λ i a f. ap (λ (p : Place). bytesAt area i (p .length)) (place-is s n r w i a ∙ release-other w x (placeAt s i) m ne .1 f))
+
+  module _ (h : Header) where
+    -- the shelf by the test of the edition
+    abbrev editedBy : Bool → Shelf
+    editedBy b = pick b s (setWatch (dropped s w) w (hearing (watchAt s w) h))
+
+    pub edited-stays : (i : ℕ) → (s .count ≤ i) ⊎ (holdsFor (placeAt s i) w ≡ false) → placeAt (edited s w h) i ≡ placeAt s i
+    unfolding edited
+    edited-stays i e = go (sameEdition (watchAt s w .edition) h)
+      where
+        go : (b : Bool) → placeAt (editedBy b) i ≡ placeAt s i
+        go true = refl
+        go false = dropped-stays i e
+
+    pub edited-own : (area : List ℕ) (m : ℕ) → keptAt (edited s w h) area w m ≡ (pick (sameEdition (watchAt s w .edition) h) (keptAt s area w) (λ _. none)) m
+    unfolding edited keptAt
+    edited-own area m = go (sameEdition (watchAt s w .edition) h)
+      where
+        go : (b : Bool) → keptAt (editedBy b) area w m ≡ (pick b (keptAt s area w) (λ _. none)) m
+        go true = refl
+        go false = kept-none (dropped s w) area w m (drop-nobody s n r w)
+
+    pub edited-other : (area : List ℕ) (x m : ℕ) → (x ≡ w → ⊥) → keptAt (edited s w h) area x m ≡ keptAt s area x m
+    unfolding edited keptAt
+    edited-other area x m ne = go (sameEdition (watchAt s w .edition) h)
+      where
+        go : (b : Bool) → keptAt (editedBy b) area x m ≡ keptAt s area x m
+        go true = refl
+        go false = dropped-other area x m ne
 
 -- ---- a section is stored
 module _ (s : Shelf) (area b : List ℕ) (r : Rules s (length area)) (w m : ℕ) (small : length b ≤ 4096) (below : placeFor s w m < s .count) where
@@ -79,14 +93,14 @@ module _ (s : Shelf) (area b : List ℕ) (r : Rules s (length area)) (w m : ℕ)
   old : (i : ℕ) → (i ≡ j → ⊥) → placeAt u i ≡ placeAt s i
   old = stored-other s (length area) r w m (length b) below
 
-  pub put-own : keptAt u area′ w m ≡ some b
+  pub put-own : keptAt u area′ w m ≡ some (record { bytes = b })
   unfolding keptAt
   put-own =
-      at-only (s .count) (λ i. holds (placeAt u i) w m) (λ i. bytesAt area′ i (placeAt u i .length)) j below
+      at-only (s .count) (λ i. holds (placeAt u i) w m) (λ i. record { bytes = bytesAt area′ i (placeAt u i .length) }) j below
       (ap (λ (p : Place). holds p w m) new ∙ holds-i (keeping w m (length b)) w m refl refl refl)
       (λ k l. ap (λ (p : Place). holds p w m) (old k (λ e. omega (arith, l, e))) ∙ only s (length area) r w m k (omega (arith, l, below)) (λ e. omega (arith, l, e)))
-      ∙ ap (λ (p : Place). some (bytesAt area′ j (p .length))) new
-      ∙ ap some (paste-there area (j * 4096) b (fits j (length b) below small))
+      ∙ ap (λ (p : Place). some (record { bytes = bytesAt area′ j (p .length) })) new
+      ∙ ap (λ (x : List ℕ). some (record { bytes = x })) (paste-there area (j * 4096) b (fits j (length b) below small))
 
   module _ (x n : ℕ) (ne : (x ≡ w) × (n ≡ m) → ⊥) where
     -- neither the old nor the new record of the place holds another section

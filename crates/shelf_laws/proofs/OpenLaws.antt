@@ -1,145 +1,137 @@
--- Opening: the rules are kept, the quota is promised, the key's view is a fresh one, and nothing else changes.
+-- An accepted opening: what it has passed, that the rules are kept, and that the key's view is a fresh one and nothing else changes.
 use Prim.Native.Nat.{_+_, _<_, _≤_, ℕ}
-use mathlib.Core.Path.{_∙_, _≡_, ap, refl, subst, sym}
-use mathlib.Core.Bool.{Bool, false, not, true}
+use mathlib.Core.Path.{_∙_, _≡_, ap, refl, sym}
+use mathlib.Core.Bool.{false, not, true}
 use mathlib.Core.List.{List}
-use mathlib.Core.Option.{none, some}
-use mathlib.Core.Logic.{⊎-elim}
+use mathlib.Core.Option.{some}
 use native.Mathlib.Omega.{arith}
-use lib.Dec.{leb}
 use lib.ListN.{length}
 use borrow.Author.Tests.{leb-true, ltb-true}
-use Rattle.refusal.specs.Outcomes.{Outcome, refused, result}
-use Rattle.shelf.proofs.CallLaws.{never}
-use Rattle.shelf.specs.Answers.{After}
-use Rattle.shelf.specs.Calls.{answered, fresh, opened, openedInRange, orRefuse, refusedBy}
-use Rattle.shelf_laws.proofs.ViewLaws.{kept-none, kept-same, same-view, view-at, view-keep, view-none}
-use Rattle.shelf_laws.specs.Views.{freshView, keptAt, view, viewAt}
-use Rattle.logic.proofs.LoopLaws.{any-first, first-has, isnt, none-at, not-e, same-or-not, true-false}
-use Rattle.shelf_state.proofs.RecordLaws.{isOf-i, isOf-shut, two-keys}
-use Rattle.shelf_state.proofs.RuleLaws.{Rules, obeys-i, quota-live, quota-shut, rules, shut-holds}
-use Rattle.shelf_state.proofs.WatchLaws.{Fits, at-other, at-same, new-rules, promise-moves}
-use Rattle.logic.specs.Loops.{any}
+use Rattle.logic.specs.Loops.{_&_}
+use Rattle.logic.proofs.LoopLaws.{any-first, first-has, isnt, none-at, not-e, true-false}
+use Rattle.refusal.specs.Outcomes.{result}
 use Rattle.shelf_state.specs.Records.{freeRecord, isOf, sameKey, setWatch, watchAt, watched}
-use Rattle.shelf_state.specs.Rules.{inRange, obeys, promised}
+use Rattle.shelf_state.specs.Rules.{inRange, obeys, promised, quotaOf}
 use Rattle.shelf_state.specs.declared.records.Asked.{Asked}
 use Rattle.shelf_state.specs.declared.records.Shelf.{Shelf}
 use Rattle.shelf_state.specs.declared.records.Watch.{Watch}
+use Rattle.shelf_state.proofs.RecordLaws.{isOf-i, isOf-shut, two-keys}
+use Rattle.shelf_state.proofs.RuleLaws.{Rules, obeys-i, quota-live, quota-shut, rules, shut-holds}
+use Rattle.shelf_state.proofs.WatchLaws.{Fits, at-other, at-same, new-rules}
+use Rattle.shelf.specs.Calls.{answered, fresh, opened, openedInRange}
+use Rattle.shelf.specs.Steps.{State}
+use Rattle.shelf.specs.Views.{Opening, freshView, keptAt, nextView, opens, view, viewAt}
+use Rattle.shelf.proofs.CallLaws.{go-on, passed}
+use Rattle.shelf_laws.specs.Laws.{OpeningKeeps, quotaClosed, quotaOpened}
+use Rattle.shelf_laws.proofs.MoveLaws.{Moves, by-key, other-key, own-key, promised-moves}
+use Rattle.shelf_laws.proofs.ViewLaws.{kept-none}
 
--- the quota that an opening promises
-abbrev pub promisedBy : Outcome (Unit {0}) → ℕ → ℕ
-promisedBy (refused k) q = 0
-promisedBy (result x) q = q
+-- the shelf after an accepted opening
+abbrev pub openedTo : Shelf → Asked → ℕ → Shelf
+openedTo s a q = setWatch s (freeRecord s) (fresh a q)
 
-pub record OpenLaw (s : Shelf) (area : List ℕ) (a : Asked) (q : ℕ) (r : After (Unit {0})) : Type 0 where
-  pub keeps : obeys (r .shelf) (length area) ≡ true
-  pub promised-is : promised (r .shelf) ≡ promised s + promisedBy (r .outcome) q
-  pub own : r .outcome ≡ result tt → (view s area a ≡ none) × (view (r .shelf) area a ≡ some (freshView q))
-  pub refusal : (k : ℕ) → r .outcome ≡ refused k → r .shelf ≡ s
-  pub other-keys : (k : Asked) → sameKey k a ≡ false → view (r .shelf) area k ≡ view s area k
-  pub other-watches : (i : ℕ) → (i ≡ freeRecord s → ⊥) → watchAt (r .shelf) i ≡ watchAt s i
-  pub places : r .shelf .places ≡ s .places
+pub record Opens (s : Shelf) (area : ℕ) (a : Asked) (q : ℕ) : Type 0 where
+  pub ok : obeys s area ≡ true
+  pub range : inRange a q ≡ true
+  pub new : watched s a ≡ false
+  pub free : freeRecord s < s .records
+  pub room : promised s + q ≤ s .count
+  pub is : opened s area a q ≡ answered tt (openedTo s a q)
 
-module _ (s : Shelf) (area : List ℕ) (a : Asked) (q : ℕ) (ok : obeys s (length area) ≡ true) where
-  stopped : (n : ℕ) → OpenLaw s area a q (refusedBy n s)
-  stopped n = record {
-    keeps = ok;
-    promised-is = omega arith;
-    own = λ e. never n tt e;
-    refusal = λ k e. refl;
-    other-keys = λ k e. refl;
-    other-watches = λ i e. refl;
-    places = refl;
-  }
+pub opening-passed : (s : Shelf) (area : ℕ) (a : Asked) (q : ℕ) → opened s area a q .outcome ≡ result tt → Opens s area a q
+unfolding opened openedInRange
+opening-passed s area a q e =
+    let p = passed 14 s _ _ tt e in
+    let p₁ = passed 15 s _ _ tt (p .1) in
+    let p₂ = passed 19 s _ _ tt (p₁ .1) in
+    let p₃ = passed 20 s _ _ tt (p₂ .1) in
+    let p₄ = passed 21 s _ _ tt (p₃ .1) in
+    record {
+      ok = p .0;
+      range = p₁ .0;
+      new = not-e (watched s a) (p₂ .0);
+      free = ltb-true (freeRecord s) (s .records) (sym (any-first (λ i. not (watchAt s i .live)) (s .records)) ∙ p₃ .0);
+      room = leb-true (promised s + q) (s .count) (p₄ .0);
+      is = sym (go-on 14 s _ _ (p .0) (go-on 15 s _ _ (p₁ .0) (go-on 19 s _ _ (p₂ .0) (go-on 20 s _ _ (p₃ .0) (go-on 21 s _ _ (p₄ .0) refl)))));
+    }
 
+module _ (s : Shelf) (area : ℕ) (a : Asked) (q : ℕ) (f : Opens s area a q) where
   abbrev w : ℕ
   w = freeRecord s
 
-  module _ (range : inRange a q ≡ true) (new : watched s a ≡ false) (l : w < s .records) (room : promised s + q ≤ s .count) where
-    h : Rules s (length area)
-    h = rules s (length area) ok
+  abbrev t : Shelf
+  t = openedTo s a q
 
-    shut : watchAt s w .live ≡ false
-    shut = not-e (watchAt s w .live) (first-has (λ i. not (watchAt s i .live)) (s .records) l)
+  h : Rules s area
+  h = rules s area (f .ok)
 
-    unheard-of : (i : ℕ) → i < s .records → isOf (watchAt s i) a ≡ false
-    unheard-of = none-at (λ i. isOf (watchAt s i) a) (s .records) new
+  shut : watchAt s w .live ≡ false
+  shut = not-e (watchAt s w .live) (first-has (λ i. not (watchAt s i .live)) (s .records) (f .free))
 
-    fits : Fits s w (fresh a q)
-    fits = record {
-      below = l;
-      nobody = λ i m. shut-holds s (length area) h w i m shut;
-      range = λ _. range;
-      last-below = λ _ g. true-false false g refl;
-      apart = λ i m _ _. unheard-of i m;
-      promise = omega (arith, room, quota-live (fresh a q) refl);
-    }
+  unwatched : (i : ℕ) → i < s .records → isOf (watchAt s i) a ≡ false
+  unwatched = none-at (λ i. isOf (watchAt s i) a) (s .records) (f .new)
 
-    abbrev t : Shelf
-    t = setWatch s w (fresh a q)
+  fits : Fits s w (fresh a q)
+  fits = record {
+    below = f .free;
+    nobody = λ i m. shut-holds s area h w i m shut;
+    range = λ _. f .range;
+    last-below = λ _ g. true-false false g refl;
+    apart = λ i m _ _. unwatched i m;
+    promise = omega (arith, f .room, quota-live (fresh a q) refl);
+  }
 
-    same : watchAt t w ≡ fresh a q
-    same = at-same s (length area) h w (fresh a q) fits
+  same : watchAt t w ≡ fresh a q
+  same = at-same s area h w (fresh a q) fits
 
-    other : (i : ℕ) → (i ≡ w → ⊥) → watchAt t i ≡ watchAt s i
-    other = at-other s (length area) h w (fresh a q) fits
+  opened-obeys : obeys t area ≡ true
+  opened-obeys = obeys-i t area (new-rules s area h w (fresh a q) fits)
 
-    kept-t : (v m : ℕ) → keptAt t area v m ≡ keptAt s area v m
-    kept-t v m = kept-same s t area area v m refl (λ i _. refl) (λ i _ _. refl)
+  pub opened-keeps : OpeningKeeps s t w
+  opened-keeps = record {
+    others = record { records-same = refl; count-same = refl; watches-stay = at-other s area h w (fresh a q) fits };
+    inside = f .free;
+    places-stay = λ i. refl;
+  }
 
-    fresh-is : viewAt t area w ≡ freshView q
-    unfolding viewAt
-    fresh-is = λ i. record {
-      quota = same i .quota;
-      heard = same i .heard;
-      version = same i .version;
-      last = same i .last;
-      kept = λ m. (kept-t w m ∙ kept-none s area w m (fits .nobody)) i;
-    }
+  opened-promises : promised t ≡ promised s + q
+  opened-promises = omega (
+    arith,
+    promised-moves s t w (opened-keeps .others) (f .free),
+    quota-shut (watchAt s w) shut,
+    quota-live (fresh a q) refl,
+    ap quotaOf same,
+  )
 
-    own-view : view t area a ≡ some (freshView q)
-    own-view =
-        view-at t area a w l (ap (λ (y : Watch). isOf y a) same ∙ isOf-i (fresh a q) a refl refl)
-        (λ i m. ap (λ (y : Watch). isOf y a) (other i (λ e. omega (arith, m, e))) ∙ unheard-of i (omega (arith, m, l)))
+  own-is : isOf (fresh a q) a ≡ true
+  own-is = isOf-i (fresh a q) a refl refl
+
+  module _ (b : List ℕ) where
+    fresh-is : viewAt t b w ≡ freshView q
+    unfolding viewAt keptAt
+    fresh-is = λ i. record { quota = same i .quota; edition = same i .edition; kept = λ m. kept-none s b w m (fits .nobody) i }
+
+    opened-own : view t b a ≡ some (freshView q)
+    opened-own =
+        own-key s t w (opened-keeps .others) b a (f .free) (ap (λ (y : Watch). isOf y a) same ∙ own-is) (λ i m. unwatched i (omega (arith, m, f .free)))
         ∙ ap some fresh-is
 
     -- neither the free record nor the new one has another key
-    new-not : (k : Asked) → sameKey k a ≡ false → isOf (fresh a q) k ≡ false
-    new-not k n = isnt (isOf (fresh a q) k) (λ e. two-keys (fresh a q) k a n e (isOf-i (fresh a q) a refl refl))
+    opened-other : (k : Asked) → sameKey k a ≡ false → view t b k ≡ view s b k
+    unfolding keptAt
+    opened-other k n = other-key s t w (opened-keeps .others) b b (λ i m _. refl) k
+        (isOf-shut (watchAt s w) k shut)
+        (ap (λ (y : Watch). isOf y k) same ∙ isnt (isOf (fresh a q) k) (λ e. two-keys (fresh a q) k a n e own-is))
 
-    others : (k : Asked) → sameKey k a ≡ false → view t area k ≡ view s area k
-    others k n = view-keep s t area area k refl
-        (λ i m. ⊎-elim
-        (λ e. subst (λ (j : ℕ). isOf (watchAt t j) k ≡ isOf (watchAt s j) k) (sym e) (ap (λ (y : Watch). isOf y k) same ∙ new-not k n ∙ sym (isOf-shut (watchAt s w) k shut)))
-        (λ e. ap (λ (y : Watch). isOf y k) (other i e)) (same-or-not i w))
-        (λ v m e. same-view s t area area v
-        (other v (λ j. true-false (isOf (watchAt s v) k) e (subst (λ (i : ℕ). isOf (watchAt s i) k ≡ false) (sym j) (isOf-shut (watchAt s w) k shut))))
-        (kept-t v))
-
-    went : OpenLaw s area a q (answered tt t)
-    went = record {
-      keeps = obeys-i t (length area) (new-rules s (length area) h w (fresh a q) fits);
-      promised-is = omega (arith, promise-moves s (length area) h w (fresh a q) fits, quota-shut (watchAt s w) shut, quota-live (fresh a q) refl);
-      own = λ _. (view-none s area a unheard-of, own-view);
-      refusal = λ k e. never k tt (sym e);
-      other-keys = others;
-      other-watches = other;
-      places = refl;
+pub opening-moves : (x : State) (o : Opening) → Opens (x .shelf) (length (x .area)) (o .key) (o .quota)
+    → Moves x (opens o) true (record { shelf = openedTo (x .shelf) (o .key) (o .quota); area = x .area })
+unfolding nextView quotaClosed quotaOpened _&_
+opening-moves x o f =
+    let s : Shelf = x .shelf in
+    let n : ℕ = length (x .area) in
+    record {
+      keeps = opened-obeys s n (o .key) (o .quota) f;
+      size = refl;
+      views = by-key (λ _. some (freshView (o .quota))) x _ (o .key) (opened-own s n (o .key) (o .quota) f (x .area)) (opened-other s n (o .key) (o .quota) f (x .area));
+      promises = omega (arith, opened-promises s n (o .key) (o .quota) f);
     }
-
-  pub open-law : OpenLaw s area a q (opened s (length area) a q)
-  unfolding opened openedInRange orRefuse
-  open-law =
-      subst (λ (x : Bool). OpenLaw s area a q (orRefuse 14 s x (chain (inRange a q) (watched s a) (any (s .records) (λ i. not (watchAt s i .live))) (leb (promised s + q) (s .count))))) (sym ok)
-      (go (inRange a q) (watched s a) (any (s .records) (λ i. not (watchAt s i .live))) (leb (promised s + q) (s .count)) refl refl refl refl)
-    where
-      chain : Bool → Bool → Bool → Bool → After (Unit {0})
-      chain b c d e = orRefuse 15 s b (orRefuse 19 s (not c) (orRefuse 20 s d (orRefuse 21 s e (answered tt (setWatch s w (fresh a q))))))
-
-      go : (b c d e : Bool) → inRange a q ≡ b → watched s a ≡ c → any (s .records) (λ i. not (watchAt s i .live)) ≡ d → leb (promised s + q) (s .count) ≡ e
-          → OpenLaw s area a q (chain b c d e)
-      go false c d e x y z u = stopped 15
-      go true true d e x y z u = stopped 19
-      go true false false e x y z u = stopped 20
-      go true false true false x y z u = stopped 21
-      go true false true true x y z u = went x y (ltb-true w (s .records) (sym (any-first (λ i. not (watchAt s i .live)) (s .records)) ∙ z)) (leb-true (promised s + q) (s .count) u)

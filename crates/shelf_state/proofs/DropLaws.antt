@@ -5,39 +5,39 @@ use mathlib.Core.Bool.{Bool, false, true}
 use native.Mathlib.Omega.{arith}
 use Rattle.logic.specs.Choices.{pick}
 use Rattle.logic.proofs.LoopLaws.{each-at, isnt, length-each, true-false}
-use Rattle.shelf_state.proofs.RecordLaws.{holds-free, holds-parts, taken-parts}
+use Rattle.shelf_state.proofs.RecordLaws.{holds-free, holds-parts, for-parts}
 use Rattle.shelf_state.proofs.RuleLaws.{Owned, Rules}
-use Rattle.shelf_state.specs.Records.{blankPlace, dropped, holds, placeAt, release, takenBy}
+use Rattle.shelf_state.specs.Records.{blankPlace, dropped, holds, placeAt, release, holdsFor}
 use Rattle.shelf_state.specs.declared.records.Place.{Place}
 use Rattle.shelf_state.specs.declared.records.Shelf.{Shelf}
 
 -- a place that is taken after a release was so before, and is not the watch's
-release-used : (w : ℕ) (p : Place) → release w p .used ≡ true → (release w p ≡ p) × (takenBy p w ≡ false)
+release-used : (w : ℕ) (p : Place) → release w p .used ≡ true → (release w p ≡ p) × (holdsFor p w ≡ false)
 unfolding release
-release-used w p e = go (takenBy p w) refl e
+release-used w p e = go (holdsFor p w) refl e
   where
-    go : (b : Bool) → takenBy p w ≡ b → (pick b blankPlace p) .used ≡ true → (pick b blankPlace p ≡ p) × (takenBy p w ≡ false)
+    go : (b : Bool) → holdsFor p w ≡ b → (pick b blankPlace p) .used ≡ true → (pick b blankPlace p ≡ p) × (holdsFor p w ≡ false)
     go true f u = true-false false u refl
     go false f u = (refl, f)
 
 -- what a release leaves of another watch's sections
 pub release-other : (w v : ℕ) (p : Place) (m : ℕ) → (v ≡ w → ⊥) → (holds (release w p) v m ≡ holds p v m) × (holds p v m ≡ true → release w p ≡ p)
 unfolding release
-release-other w v p m n = go (takenBy p w) refl
+release-other w v p m n = go (holdsFor p w) refl
   where
-    clash : takenBy p w ≡ true → holds p v m ≡ true → ⊥
-    clash e t = n (sym (holds-parts p v m t .1) ∙ taken-parts p w e .1)
+    clash : holdsFor p w ≡ true → holds p v m ≡ true → ⊥
+    clash e t = n (sym (holds-parts p v m t .1) ∙ for-parts p w e .1)
 
-    go : (b : Bool) → takenBy p w ≡ b → (holds (pick b blankPlace p) v m ≡ holds p v m) × (holds p v m ≡ true → pick b blankPlace p ≡ p)
+    go : (b : Bool) → holdsFor p w ≡ b → (holds (pick b blankPlace p) v m ≡ holds p v m) × (holds p v m ≡ true → pick b blankPlace p ≡ p)
     go true e = (holds-free blankPlace v m refl ∙ sym (isnt (holds p v m) (clash e)), λ t. absurd (clash e t))
     go false e = (refl, λ _. refl)
 
-release-own : (w : ℕ) (p : Place) → takenBy (release w p) w ≡ false
+release-own : (w : ℕ) (p : Place) → holdsFor (release w p) w ≡ false
 unfolding release
-release-own w p = go (takenBy p w) refl
+release-own w p = go (holdsFor p w) refl
   where
-    go : (b : Bool) → takenBy p w ≡ b → takenBy (pick b blankPlace p) w ≡ false
-    go true e = isnt (takenBy blankPlace w) (λ t. true-false false (taken-parts blankPlace w t .0) refl)
+    go : (b : Bool) → holdsFor p w ≡ b → holdsFor (pick b blankPlace p) w ≡ false
+    go true e = isnt (holdsFor blankPlace w) (λ t. true-false false (for-parts blankPlace w t .0) refl)
     go false e = e
 
 module _ (s : Shelf) (area : ℕ) (h : Rules s area) (w : ℕ) where
@@ -47,8 +47,8 @@ module _ (s : Shelf) (area : ℕ) (h : Rules s area) (w : ℕ) where
   pub place-is : (i : ℕ) → i < s .count → placeAt t i ≡ release w (placeAt s i)
   place-is i a = each-at (release w) blankPlace (s .count) (s .places) i a (omega (arith, h .size .count-64, h .size .places-64))
 
-  pub drop-nobody : (i : ℕ) → i < s .count → takenBy (placeAt t i) w ≡ false
-  drop-nobody i a = ap (λ (p : Place). takenBy p w) (place-is i a) ∙ release-own w (placeAt s i)
+  pub drop-nobody : (i : ℕ) → i < s .count → holdsFor (placeAt t i) w ≡ false
+  drop-nobody i a = ap (λ (p : Place). holdsFor p w) (place-is i a) ∙ release-own w (placeAt s i)
 
   -- a place taken afterwards is as it was
   place-used : (i : ℕ) → i < s .count → placeAt t i .used ≡ true → placeAt t i ≡ placeAt s i

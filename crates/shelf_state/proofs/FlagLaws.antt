@@ -61,10 +61,10 @@ pub flag-is : (s : Shelf) (i k : ℕ) (seen : List Bool) (b : Bool) → Seen s i
 flag-is s i k seen b h small e f = sym (h .flag _ _ (small .0) (small .1)) ∙ sym (ap (λ (x : ℕ). getD seen x false) e) ∙ f
 
 -- where the flag of a place with a sound owner stands
-pub flag-small : (s : Shelf) (p : Place) → s .records ≤ 16 → watchesOk s ≡ true → ownerOk s p ≡ true → (p .watch < 16) × (p .number < 64)
+pub flag-small : (s : Shelf) (p : Place) → s .records ≤ 16 → watchesOk (s .watches) (s .records) ≡ true → ownerOk s p ≡ true → (p .watch < 16) × (p .number < 64)
 flag-small s p l h e =
     let o : Owned s p = owner-facts s p e in
-    let f = watch-facts s (p .watch) (all-at (watchOk s) (s .records) h (p .watch) (o .below)) (o .live) in
+    let f = watch-facts s (p .watch) (all-at (watchOk (s .watches)) (s .records) h (p .watch) (o .below)) (o .live) in
     (omega (arith, o .below), omega (arith, o .upto, f .1 (o .heard), in-range _ _ (f .0) .quota-64))
 
 -- ---- what the test of a place comes to

@@ -7,7 +7,7 @@ use lib.ListN.{getD, replicate}
 use borrow.Author.Tests.{eq-eqb, eqb-true}
 use Rattle.logic.proofs.LoopLaws.{and-i, and-left, and-right, each-more, isnt, true-false}
 use Rattle.logic.specs.Loops.{each}
-use Rattle.shelf_state.specs.Records.{asked, blankPlace, dropBelow, holds, isOf, placeAt, release, sameKey, setPlace, takenBy}
+use Rattle.shelf_state.specs.Records.{asked, blankPlace, dropBelow, holds, isOf, placeAt, release, sameKey, setPlace, holdsFor}
 use Rattle.shelf_state.specs.declared.records.Asked.{Asked}
 use Rattle.shelf_state.specs.declared.records.Place.{Place}
 use Rattle.shelf_state.specs.declared.records.Shelf.{Shelf}
@@ -45,21 +45,21 @@ pub two-keys : {A : Type 0} (w : Watch) (a b : Asked) → sameKey a b ≡ false 
 two-keys w a b n e f = true-false (sameKey a b) (subst (λ (y : Asked). sameKey a y ≡ true) (sym (isOf-key w a e) ∙ isOf-key w b f) (key-self a)) n
 
 -- ---- places
-pub taken-i : (p : Place) (w : ℕ) → p .used ≡ true → p .watch ≡ w → takenBy p w ≡ true
-unfolding takenBy
-taken-i p w u o = and-i _ _ u (eq-eqb _ _ o)
+pub for-i : (p : Place) (w : ℕ) → p .used ≡ true → p .watch ≡ w → holdsFor p w ≡ true
+unfolding holdsFor
+for-i p w u o = and-i _ _ u (eq-eqb _ _ o)
 
-pub taken-parts : (p : Place) (w : ℕ) → takenBy p w ≡ true → (p .used ≡ true) × (p .watch ≡ w)
-unfolding takenBy
-taken-parts p w e = (and-left _ _ e, eqb-true _ _ (and-right _ _ e))
+pub for-parts : (p : Place) (w : ℕ) → holdsFor p w ≡ true → (p .used ≡ true) × (p .watch ≡ w)
+unfolding holdsFor
+for-parts p w e = (and-left _ _ e, eqb-true _ _ (and-right _ _ e))
 
 pub holds-i : (p : Place) (w n : ℕ) → p .used ≡ true → p .watch ≡ w → p .number ≡ n → holds p w n ≡ true
 unfolding holds
-holds-i p w n u o m = and-i _ _ (taken-i p w u o) (eq-eqb _ _ m)
+holds-i p w n u o m = and-i _ _ (for-i p w u o) (eq-eqb _ _ m)
 
 pub holds-parts : (p : Place) (w n : ℕ) → holds p w n ≡ true → (p .used ≡ true) × (p .watch ≡ w) × (p .number ≡ n)
 unfolding holds
-holds-parts p w n e = let t = taken-parts p w (and-left _ _ e) in (t .0, t .1, eqb-true _ _ (and-right _ _ e))
+holds-parts p w n e = let t = for-parts p w (and-left _ _ e) in (t .0, t .1, eqb-true _ _ (and-right _ _ e))
 
 pub holds-free : (p : Place) (w n : ℕ) → p .used ≡ false → holds p w n ≡ false
 holds-free p w n f = isnt (holds p w n) (λ e. true-false (p .used) (holds-parts p w n e .0) f)

@@ -13,9 +13,9 @@ use Rattle.kind.specs.declared.Found.{Found}
 use Rattle.kind.specs.declared.Kind.{Kind}
 use Rattle.logic.proofs.CountLaws.{Sorted, count-by, count-gap, count-none, count-some, numbers, pigeon, pigeon-gap, sum-lt}
 use Rattle.logic.proofs.LoopLaws.{all-at, all-i, and-i, and-left, and-right, any-none, both, first-has, if-i, if-then, isnt, neither-below, none-at, not-e, not-i, same-truth, true-false}
-use Rattle.shelf_state.proofs.RecordLaws.{holds-i, holds-parts, isOf-key, isOf-live, taken-i, taken-parts}
+use Rattle.shelf_state.proofs.RecordLaws.{holds-i, holds-parts, isOf-key, isOf-live, for-i, for-parts}
 use Rattle.logic.specs.Loops.{any, count}
-use Rattle.shelf_state.specs.Records.{asked, freePlace, holds, isHeld, isOf, placeAt, takenBy, watchAt, watchOf}
+use Rattle.shelf_state.specs.Records.{asked, freePlace, holds, isHeld, isOf, placeAt, holdsFor, watchAt, watchOf}
 use Rattle.shelf_state.specs.Rules.{heldBy, inRange, keysDiffer, keysInRange, lastBelowQuota, lengthsFit, noneAboveQuota, noneTwice, obeys, placesOwned, promised, quotaOf, quotasFit, sizesFit, sizesInRange, unheardEmpty, watchable}
 use Rattle.shelf_state.specs.Tests.{keyIsNew, lastOk, ownerOk, placeOk, soundUnder, tested, watchOk, watchSound}
 use Rattle.shelf_state.specs.declared.records.Asked.{Asked}
@@ -39,8 +39,8 @@ pub record Sizes (s : Shelf) (area : ℕ) : Type 0 where
 pub record Owned (s : Shelf) (p : Place) : Type 0 where
   pub below : p .watch < s .records
   pub live : watchAt s (p .watch) .live ≡ true
-  pub heard : watchAt s (p .watch) .heard ≡ true
-  pub upto : p .number ≤ watchAt s (p .watch) .last
+  pub heard : watchAt s (p .watch) .edition .heard ≡ true
+  pub upto : p .number ≤ watchAt s (p .watch) .edition .last
 
 pub record Rules (s : Shelf) (area : ℕ) : Type 0 where
   pub size : Sizes s area
@@ -48,7 +48,7 @@ pub record Rules (s : Shelf) (area : ℕ) : Type 0 where
   pub promise : promised s ≤ s .count
   pub owned : (i : ℕ) → i < s .count → placeAt s i .used ≡ true → Owned s (placeAt s i)
   pub once : (i j : ℕ) → i < j → j < s .count → placeAt s j .used ≡ true → holds (placeAt s i) (placeAt s j .watch) (placeAt s j .number) ≡ false
-  pub last-below : (i : ℕ) → i < s .records → watchAt s i .live ≡ true → watchAt s i .heard ≡ true → watchAt s i .last < watchAt s i .quota
+  pub last-below : (i : ℕ) → i < s .records → watchAt s i .live ≡ true → watchAt s i .edition .heard ≡ true → watchAt s i .edition .last < watchAt s i .quota
   pub short : (i : ℕ) → i < s .count → placeAt s i .used ≡ true → placeAt s i .length ≤ 4096
   pub range : (i : ℕ) → i < s .records → watchAt s i .live ≡ true → inRange (asked (watchAt s i .key)) (watchAt s i .quota) ≡ true
 
@@ -124,13 +124,13 @@ quota-shut w e = rw e
 
 module _ (s : Shelf) (area : ℕ) (h : Rules s area) where
   -- the sections of one watch are sorted by their numbers, which are at most its last
-  sorted : (w q : ℕ) → (watchAt s w .live ≡ true → watchAt s w .heard ≡ true → watchAt s w .last < q)
-      → Sorted (s .count) q (λ i. takenBy (placeAt s i) w) (λ i. placeAt s i .number)
+  sorted : (w q : ℕ) → (watchAt s w .live ≡ true → watchAt s w .edition .heard ≡ true → watchAt s w .edition .last < q)
+      → Sorted (s .count) q (λ i. holdsFor (placeAt s i) w) (λ i. placeAt s i .number)
   sorted w q up = record {
-    small = λ i l e. small′ i l (taken-parts (placeAt s i) w e);
+    small = λ i l e. small′ i l (for-parts (placeAt s i) w e);
     apart = λ i j a b e f n.
-        let x = taken-parts (placeAt s i) w e in
-        let y = taken-parts (placeAt s j) w f in
+        let x = for-parts (placeAt s i) w e in
+        let y = for-parts (placeAt s j) w f in
         true-false (holds (placeAt s i) (placeAt s j .watch) (placeAt s j .number))
         (holds-i (placeAt s i) _ _ (x .0) (x .1 ∙ sym (y .1)) n)
         (h .once i j a b (y .0));
@@ -140,42 +140,42 @@ module _ (s : Shelf) (area : ℕ) (h : Rules s area) where
       small′ i l u =
           let o : Owned s (placeAt s i) = h .owned i l (u .0) in
           let v : watchAt s w .live ≡ true = rw (u .1) at (o .live) in
-          let g : watchAt s w .heard ≡ true = rw (u .1) at (o .heard) in
-          let b : placeAt s i .number ≤ watchAt s w .last = rw (u .1) at (o .upto) in
+          let g : watchAt s w .edition .heard ≡ true = rw (u .1) at (o .heard) in
+          let b : placeAt s i .number ≤ watchAt s w .edition .last = rw (u .1) at (o .upto) in
           omega (arith, b, up v g)
 
-  below-quota : (w : ℕ) → w < s .records → Sorted (s .count) (watchAt s w .quota) (λ i. takenBy (placeAt s i) w) (λ i. placeAt s i .number)
+  below-quota : (w : ℕ) → w < s .records → Sorted (s .count) (watchAt s w .quota) (λ i. holdsFor (placeAt s i) w) (λ i. placeAt s i .number)
   below-quota w l = sorted w (watchAt s w .quota) (h .last-below w l)
 
   -- a closed watch holds nothing, and so does one with no edition
-  pub shut-holds : (w i : ℕ) → i < s .count → watchAt s w .live ≡ false → takenBy (placeAt s i) w ≡ false
-  shut-holds w i l v = isnt (takenBy (placeAt s i) w) (λ t.
-      let u = taken-parts (placeAt s i) w t in
+  pub shut-holds : (w i : ℕ) → i < s .count → watchAt s w .live ≡ false → holdsFor (placeAt s i) w ≡ false
+  shut-holds w i l v = isnt (holdsFor (placeAt s i) w) (λ t.
+      let u = for-parts (placeAt s i) w t in
       let o : Owned s (placeAt s i) = h .owned i l (u .0) in
       true-false (watchAt s w .live) (rw (u .1) at (o .live)) v)
 
-  unheard-holds : (w i : ℕ) → i < s .count → watchAt s w .heard ≡ false → takenBy (placeAt s i) w ≡ false
-  unheard-holds w i l v = isnt (takenBy (placeAt s i) w) (λ t.
-      let u = taken-parts (placeAt s i) w t in
+  pub unheard-holds : (w i : ℕ) → i < s .count → watchAt s w .edition .heard ≡ false → holdsFor (placeAt s i) w ≡ false
+  unheard-holds w i l v = isnt (holdsFor (placeAt s i) w) (λ t.
+      let u = for-parts (placeAt s i) w t in
       let o : Owned s (placeAt s i) = h .owned i l (u .0) in
-      true-false (watchAt s w .heard) (rw (u .1) at (o .heard)) v)
+      true-false (watchAt s w .edition .heard) (rw (u .1) at (o .heard)) v)
 
   -- no watch holds more than its quota
   pub held-quota : (w : ℕ) → w < s .records → heldBy s w ≤ quotaOf (watchAt s w)
   held-quota w l = ⊎-elim
-      (λ e. rw (quota-live (watchAt s w) e) (pigeon (s .count) (watchAt s w .quota) (λ i. takenBy (placeAt s i) w) (λ i. placeAt s i .number) (below-quota w l)))
-      (λ e. let z : heldBy s w ≡ 0 = count-none (s .count) (λ i. takenBy (placeAt s i) w) (λ i m. shut-holds w i m e) in omega (arith, z))
+      (λ e. rw (quota-live (watchAt s w) e) (pigeon (s .count) (watchAt s w .quota) (λ i. holdsFor (placeAt s i) w) (λ i. placeAt s i .number) (below-quota w l)))
+      (λ e. let z : heldBy s w ≡ 0 = count-none (s .count) (λ i. holdsFor (placeAt s i) w) (λ i m. shut-holds w i m e) in omega (arith, z))
       (both (watchAt s w .live))
 
   -- a watch's sections are as many as the numbers that it holds, all at most its last
-  pub held-numbers : (w : ℕ) → heldBy s w ≡ count (watchAt s w .last + 1) (λ n. isHeld s w n)
+  pub held-numbers : (w : ℕ) → heldBy s w ≡ count (watchAt s w .edition .last + 1) (λ n. isHeld s w n)
   unfolding holds
-  held-numbers w = numbers (s .count) (watchAt s w .last + 1) (λ i. takenBy (placeAt s i) w) (λ i. placeAt s i .number) (sorted w _ (λ v g. omega arith))
+  held-numbers w = numbers (s .count) (watchAt s w .edition .last + 1) (λ i. holdsFor (placeAt s i) w) (λ i. placeAt s i .number) (sorted w _ (λ v g. omega arith))
 
   -- an open watch that lacks a number below its quota leaves a place free
   pub room-left : (w n : ℕ) → w < s .records → watchAt s w .live ≡ true → n < watchAt s w .quota
       → ((i : ℕ) → i < s .count → holds (placeAt s i) w n ≡ false) → freePlace s < s .count
-  unfolding holds takenBy
+  unfolding holds holdsFor
   room-left w n l e q lacks =
       count-gap (s .count) (λ i. placeAt s i .used)
       (omega (
@@ -184,7 +184,7 @@ module _ (s : Shelf) (area : ℕ) (h : Rules s area) where
         count-by (s .count) (s .records) (λ i. placeAt s i .used) (λ i. placeAt s i .watch) (λ i a u. h .owned i a u .below),
         sum-lt (s .records) (heldBy s) (λ i. quotaOf (watchAt s i)) held-quota w l
             (rw (quota-live (watchAt s w) e)
-            (pigeon-gap (s .count) (watchAt s w .quota) (λ i. takenBy (placeAt s i) w) (λ i. placeAt s i .number) (below-quota w l) n q lacks)),
+            (pigeon-gap (s .count) (watchAt s w .quota) (λ i. holdsFor (placeAt s i) w) (λ i. placeAt s i .number) (below-quota w l) n q lacks)),
       ))
 
 -- ---- the rules' value says the facts
@@ -204,9 +204,9 @@ module _ (s : Shelf) (area : ℕ) (h : obeys s area ≡ true) where
             (λ g. absurd (omega (
               arith,
               eqb-true (heldBy s w) 0 (if-then _ _ (all-at _ (s .records) b w below) (and-i _ _ live (ap not g))),
-              count-some (s .count) (λ j. takenBy (placeAt s j) w) i l (taken-i (placeAt s i) w u refl),
+              count-some (s .count) (λ j. holdsFor (placeAt s j) w) i l (for-i (placeAt s i) w u refl),
             )))
-            (both (watchAt s w .heard));
+            (both (watchAt s w .edition .heard));
         upto = leb-true _ _ (and-right _ _ (and-right _ _ e));
       }
 
@@ -243,7 +243,7 @@ obeys-i s area h =
     (and-i _ _ (all-i _ (s .count) (λ j l. if-i _ _ (λ u. not-i _ (any-none _ j (λ i m. h .once i j m l u)))))
     (and-i _ _ (all-i _ (s .records) (λ w l. if-i _ _ (λ v. le-leb (heldBy s w) (watchAt s w .quota) (omega (arith, held-quota s area h w l, quota-live (watchAt s w) v)))))
     (and-i _ _ (all-i _ (s .records) (λ w l. if-i _ _ (λ v. lt-ltb _ _ (h .last-below w l (and-left _ _ v) (and-right _ _ v)))))
-    (and-i _ _ (all-i _ (s .records) (λ w l. if-i _ _ (λ v. eq-eqb _ _ (count-none (s .count) (λ i. takenBy (placeAt s i) w) (λ i m. unheard-holds s area h w i m (not-e _ (and-right _ _ v)))))))
+    (and-i _ _ (all-i _ (s .records) (λ w l. if-i _ _ (λ v. eq-eqb _ _ (count-none (s .count) (λ i. holdsFor (placeAt s i) w) (λ i m. unheard-holds s area h w i m (not-e _ (and-right _ _ v)))))))
     (and-i _ _ (all-i _ (s .count) (λ i l. if-i _ _ (λ u. le-leb _ _ (h .short i l u))))
     (all-i _ (s .records) (λ w l. if-i _ _ (λ v. h .range w l v)))))))))))
 
@@ -261,8 +261,8 @@ owner-facts s p e =
     }
 
 module _ (s : Shelf) (i : ℕ) where
-  pub watch-facts : watchOk s i ≡ true → watchAt s i .live ≡ true
-      → (inRange (asked (watchAt s i .key)) (watchAt s i .quota) ≡ true) × (watchAt s i .heard ≡ true → watchAt s i .last < watchAt s i .quota)
+  pub watch-facts : watchOk (s .watches) i ≡ true → watchAt s i .live ≡ true
+      → (inRange (asked (watchAt s i .key)) (watchAt s i .quota) ≡ true) × (watchAt s i .edition .heard ≡ true → watchAt s i .edition .last < watchAt s i .quota)
       × (any i (λ j. isOf (watchAt s j) (asked (watchAt s i .key))) ≡ false)
   unfolding watchOk watchSound keyIsNew lastOk
   watch-facts e v =
@@ -279,9 +279,9 @@ unfolding ownerOk soundUnder
 owner-short s p e = leb-true _ _ (and-left _ _ (and-right _ _ e))
 
 module _ (s : Shelf) (area : ℕ) (h : tested s area ≡ true) where
-  watch-tested : (i : ℕ) → i < s .records → watchOk s i ≡ true
+  watch-tested : (i : ℕ) → i < s .records → watchOk (s .watches) i ≡ true
   unfolding tested
-  watch-tested = all-at (watchOk s) (s .records) (and-left _ _ (and-right _ _ h))
+  watch-tested = all-at (watchOk (s .watches)) (s .records) (and-left _ _ (and-right _ _ h))
 
   place-tested : (i : ℕ) → i < s .count → placeAt s i .used ≡ true
       → (ownerOk s (placeAt s i) ≡ true) × (any i (λ j. holds (placeAt s j) (placeAt s i .watch) (placeAt s i .number)) ≡ false)

@@ -8,9 +8,9 @@ use lib.ListN.{length-set}
 use lib.Seq.{getD-set-other, getD-set-same}
 use Rattle.logic.proofs.CountLaws.{sum-at}
 use Rattle.logic.proofs.LoopLaws.{isnt, same-or-not, true-false}
-use Rattle.shelf_state.proofs.RecordLaws.{isOf-i, isOf-key, isOf-live, taken-i}
+use Rattle.shelf_state.proofs.RecordLaws.{isOf-i, isOf-key, isOf-live, for-i}
 use Rattle.shelf_state.proofs.RuleLaws.{Owned, Rules}
-use Rattle.shelf_state.specs.Records.{asked, blankWatch, isOf, placeAt, setWatch, takenBy, watchAt}
+use Rattle.shelf_state.specs.Records.{asked, blankWatch, isOf, placeAt, setWatch, holdsFor, watchAt}
 use Rattle.shelf_state.specs.Rules.{inRange, promised, quotaOf}
 use Rattle.shelf_state.specs.declared.records.Shelf.{Shelf}
 use Rattle.shelf_state.specs.declared.records.Watch.{Watch}
@@ -18,9 +18,9 @@ use Rattle.shelf_state.specs.declared.records.Watch.{Watch}
 -- what the new record needs
 pub record Fits (s : Shelf) (w : ℕ) (x : Watch) : Type 0 where
   pub below : w < s .records
-  pub nobody : (i : ℕ) → i < s .count → takenBy (placeAt s i) w ≡ false
+  pub nobody : (i : ℕ) → i < s .count → holdsFor (placeAt s i) w ≡ false
   pub range : x .live ≡ true → inRange (asked (x .key)) (x .quota) ≡ true
-  pub last-below : x .live ≡ true → x .heard ≡ true → x .last < x .quota
+  pub last-below : x .live ≡ true → x .edition .heard ≡ true → x .edition .last < x .quota
   pub apart : (i : ℕ) → i < s .records → (i ≡ w → ⊥) → x .live ≡ true → isOf (watchAt s i) (asked (x .key)) ≡ false
   pub promise : promised s + quotaOf x ≤ s .count + quotaOf (watchAt s w)
 
@@ -52,13 +52,13 @@ module _ (s : Shelf) (area : ℕ) (h : Rules s area) (w : ℕ) (x : Watch) (f : 
   owned-new : (i : ℕ) → i < s .count → placeAt s i .used ≡ true → Owned t (placeAt s i)
   owned-new i a u =
       let o : Owned s (placeAt s i) = h .owned i a u in
-      let n : placeAt s i .watch ≡ w → ⊥ = (λ q. true-false (takenBy (placeAt s i) w) (taken-i (placeAt s i) w u q) (f .nobody i a)) in
+      let n : placeAt s i .watch ≡ w → ⊥ = (λ q. true-false (holdsFor (placeAt s i) w) (for-i (placeAt s i) w u q) (f .nobody i a)) in
       let e : watchAt t (placeAt s i .watch) ≡ watchAt s (placeAt s i .watch) = at-other (placeAt s i .watch) n in
       record {
         below = o .below;
         live = ap (λ (y : Watch). y .live) e ∙ o .live;
-        heard = ap (λ (y : Watch). y .heard) e ∙ o .heard;
-        upto = subst (λ (y : Watch). placeAt s i .number ≤ y .last) (sym e) (o .upto);
+        heard = ap (λ (y : Watch). y .edition .heard) e ∙ o .heard;
+        upto = subst (λ (y : Watch). placeAt s i .number ≤ y .edition .last) (sym e) (o .upto);
       }
 
   -- an old record that comes after the new one has another key
@@ -88,7 +88,7 @@ module _ (s : Shelf) (area : ℕ) (h : Rules s area) (w : ℕ) (x : Watch) (f : 
     promise = omega (arith, f .promise, promise-moves);
     owned = owned-new;
     once = h .once;
-    last-below = each-watch (λ i y. i < s .records → y .live ≡ true → y .heard ≡ true → y .last < y .quota) (λ a v g. f .last-below v g) (λ i n a v g. h .last-below i a v g);
+    last-below = each-watch (λ i y. i < s .records → y .live ≡ true → y .edition .heard ≡ true → y .edition .last < y .quota) (λ a v g. f .last-below v g) (λ i n a v g. h .last-below i a v g);
     short = h .short;
     range = each-watch (λ i y. i < s .records → y .live ≡ true → inRange (asked (y .key)) (y .quota) ≡ true) (λ a v. f .range v) (λ i n a v. h .range i a v);
   }

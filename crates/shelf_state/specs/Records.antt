@@ -1,12 +1,14 @@
 -- SCOPE 5.2: what the records of the shelf mean.
 use Prim.Native.Nat.{ℕ}
 use mathlib.Core.Bool.{Bool, false, not}
+use mathlib.Core.List.{List}
 use lib.ListN.{getD, set, replicate}
 use lib.Dec.{eqb}
 use Rattle.logic.specs.Choices.{pick}
 use Rattle.logic.specs.Loops.{_&_, any, first, each}
 use Rattle.shelf_state.specs.declared.records.Key.{Key}
 use Rattle.shelf_state.specs.declared.records.Asked.{Asked}
+use Rattle.shelf_state.specs.declared.records.Edition.{Edition}
 use Rattle.shelf_state.specs.declared.records.Watch.{Watch}
 use Rattle.shelf_state.specs.declared.records.Place.{Place}
 use Rattle.shelf_state.specs.declared.records.Shelf.{Shelf}
@@ -15,17 +17,27 @@ use Rattle.shelf_state.specs.declared.records.Shelf.{Shelf}
 abbrev pub blankKey : Key
 blankKey = record { pid = 0; «table_id» = 0; extension = 0 }
 
+-- nothing has been heard
+abbrev pub noEdition : Edition
+noEdition = record { heard = false; version = 0; last = 0 }
+
 abbrev pub blankWatch : Watch
-blankWatch = record { live = false; key = blankKey; quota = 0; heard = false; version = 0; last = 0 }
+blankWatch = record { live = false; key = blankKey; quota = 0; edition = noEdition }
 
 abbrev pub blankPlace : Place
 blankPlace = record { used = false; watch = 0; number = 0; length = 0 }
 
+abbrev pub watchIn : List Watch → ℕ → Watch
+watchIn ws i = getD ws i blankWatch
+
 abbrev pub watchAt : Shelf → ℕ → Watch
-watchAt s i = getD (s .watches) i blankWatch
+watchAt s i = watchIn (s .watches) i
+
+abbrev pub placeIn : List Place → ℕ → Place
+placeIn ps i = getD ps i blankPlace
 
 abbrev pub placeAt : Shelf → ℕ → Place
-placeAt s i = getD (s .places) i blankPlace
+placeAt s i = placeIn (s .places) i
 
 -- ---- keys
 -- the key that a record keeps, as a call names it; and the record of a named key
@@ -47,34 +59,43 @@ isOf w a = w .live & sameKey (asked (w .key)) a
 abbrev pub watched : Shelf → Asked → Bool
 watched s a = any (s .records) (λ i. isOf (watchAt s i) a)
 
-abbrev pub findWatch : Shelf → ℕ → Asked → ℕ
-findWatch s n a = first n (λ i. isOf (watchAt s i) a)
+abbrev pub findWatch : List Watch → ℕ → Asked → ℕ
+findWatch ws n a = first n (λ i. isOf (watchIn ws i) a)
 
 abbrev pub watchOf : Shelf → Asked → ℕ
-watchOf s a = findWatch s (s .records) a
+watchOf s a = findWatch (s .watches) (s .records) a
 
 -- the lowest record that is not open
+abbrev pub firstClosed : List Watch → ℕ → ℕ
+firstClosed ws n = first n (λ i. not (watchIn ws i .live))
+
 abbrev pub freeRecord : Shelf → ℕ
-freeRecord s = first (s .records) (λ i. not (watchAt s i .live))
+freeRecord s = firstClosed (s .watches) (s .records)
 
 -- ---- places
--- a place that is taken by watch w; by its section of number n
-unfoldable pub takenBy : Place → ℕ → Bool
-takenBy p w = p .used & eqb (p .watch) w
+-- a place that holds a section of watch w; its section of number n
+unfoldable pub holdsFor : Place → ℕ → Bool
+holdsFor p w = p .used & eqb (p .watch) w
 
 unfoldable pub holds : Place → ℕ → ℕ → Bool
-holds p w n = takenBy p w & eqb (p .number) n
+holds p w n = holdsFor p w & eqb (p .number) n
 
 -- watch w holds its section of number n, and the place where
 abbrev pub isHeld : Shelf → ℕ → ℕ → Bool
 isHeld s w n = any (s .count) (λ i. holds (placeAt s i) w n)
 
+abbrev pub findPlace : List Place → ℕ → ℕ → ℕ → ℕ
+findPlace ps k w n = first k (λ i. holds (placeIn ps i) w n)
+
 abbrev pub placeOf : Shelf → ℕ → ℕ → ℕ
-placeOf s w n = first (s .count) (λ i. holds (placeAt s i) w n)
+placeOf s w n = findPlace (s .places) (s .count) w n
 
 -- the lowest free place
+abbrev pub firstFree : List Place → ℕ → ℕ
+firstFree ps k = first k (λ i. not (placeIn ps i .used))
+
 abbrev pub freePlace : Shelf → ℕ
-freePlace s = first (s .count) (λ i. not (placeAt s i .used))
+freePlace s = firstFree (s .places) (s .count)
 
 -- ---- changes of one record
 abbrev pub setWatch : Shelf → ℕ → Watch → Shelf
@@ -85,7 +106,7 @@ setPlace s i p = record { watches = s .watches; records = s .records; places = s
 
 -- a place that is free where it was watch w's; the first n places so
 unfoldable pub release : ℕ → Place → Place
-release w p = pick (takenBy p w) blankPlace p
+release w p = pick (holdsFor p w) blankPlace p
 
 abbrev pub dropBelow : Shelf → ℕ → ℕ → Shelf
 dropBelow s w n = record { watches = s .watches; records = s .records; places = each n (release w) blankPlace (s .places); count = s .count }

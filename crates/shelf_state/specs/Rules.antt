@@ -2,6 +2,7 @@
 -- places, within the sizes in use, are judged.
 use Prim.Native.Nat.{ℕ, _*_}
 use mathlib.Core.Bool.{Bool, false, not}
+use mathlib.Core.List.{List}
 use lib.ListN.{length}
 use lib.Dec.{ltb, leb, eqb}
 use Rattle.logic.specs.Choices.{pick}
@@ -9,9 +10,10 @@ use Rattle.kind.specs.declared.Found.{Found}
 use Rattle.kind.specs.declared.Found.the-variants.{Is, Nothing}
 use Rattle.kind.specs.Kinds.{kindOf, limitsOf}
 use Rattle.logic.specs.Loops.{_&_, _⇒_, all, any, sum, count}
-use Rattle.shelf_state.specs.Records.{asked, watchAt, placeAt, isOf, takenBy, holds}
+use Rattle.shelf_state.specs.Records.{asked, watchIn, watchAt, placeIn, placeAt, isOf, holdsFor, holds}
 use Rattle.shelf_state.specs.declared.records.Asked.{Asked}
 use Rattle.shelf_state.specs.declared.records.Watch.{Watch}
+use Rattle.shelf_state.specs.declared.records.Place.{Place}
 use Rattle.shelf_state.specs.declared.records.Shelf.{Shelf}
 
 -- ---- the words of the rules
@@ -20,15 +22,18 @@ unfoldable pub quotaOf : Watch → ℕ
 quotaOf w = pick (w .live) (w .quota) 0
 
 -- the places promised: the sum of the open watches' quotas
-abbrev pub promisedBelow : Shelf → ℕ → ℕ
-promisedBelow s n = sum n (λ i. quotaOf (watchAt s i))
+abbrev pub promisedIn : List Watch → ℕ → ℕ
+promisedIn ws n = sum n (λ i. quotaOf (watchIn ws i))
 
 abbrev pub promised : Shelf → ℕ
-promised s = promisedBelow s (s .records)
+promised s = promisedIn (s .watches) (s .records)
 
 -- how many sections watch w holds
+abbrev pub heldIn : List Place → ℕ → ℕ → ℕ
+heldIn ps k w = count k (λ i. holdsFor (placeIn ps i) w)
+
 abbrev pub heldBy : Shelf → ℕ → ℕ
-heldBy s w = count (s .count) (λ i. takenBy (placeAt s i) w)
+heldBy s w = heldIn (s .places) (s .count) w
 
 -- a kind that may be watched
 unfoldable pub watchable : Found → Bool
@@ -52,7 +57,7 @@ quotasFit s = leb (promised s) (s .count)
 unfoldable pub placesOwned : Shelf → Bool
 placesOwned s =
     all (s .count) (λ i. placeAt s i .used
-    ⇒ ltb (placeAt s i .watch) (s .records) & watchAt s (placeAt s i .watch) .live & leb (placeAt s i .number) (watchAt s (placeAt s i .watch) .last))
+    ⇒ ltb (placeAt s i .watch) (s .records) & watchAt s (placeAt s i .watch) .live & leb (placeAt s i .number) (watchAt s (placeAt s i .watch) .edition .last))
 
 -- no watch holds a number twice: no earlier place has the section
 unfoldable pub noneTwice : Shelf → Bool
@@ -64,11 +69,11 @@ noneAboveQuota s = all (s .records) (λ w. watchAt s w .live ⇒ leb (heldBy s w
 
 -- last is below the quota
 unfoldable pub lastBelowQuota : Shelf → Bool
-lastBelowQuota s = all (s .records) (λ w. watchAt s w .live & watchAt s w .heard ⇒ ltb (watchAt s w .last) (watchAt s w .quota))
+lastBelowQuota s = all (s .records) (λ w. watchAt s w .live & watchAt s w .edition .heard ⇒ ltb (watchAt s w .edition .last) (watchAt s w .quota))
 
 -- a watch with no edition holds nothing
 unfoldable pub unheardEmpty : Shelf → Bool
-unheardEmpty s = all (s .records) (λ w. watchAt s w .live & not (watchAt s w .heard) ⇒ eqb (heldBy s w) 0)
+unheardEmpty s = all (s .records) (λ w. watchAt s w .live & not (watchAt s w .edition .heard) ⇒ eqb (heldBy s w) 0)
 
 -- lengths are at most 4,096
 unfoldable pub lengthsFit : Shelf → Bool

@@ -1,30 +1,30 @@
 // Under the rules' test: searches in a shelf and changes of one, for the calls.
 use crate::records::Asked;
+use crate::records::Edition;
 use crate::records::Key;
 use crate::records::Place;
 use crate::records::Shelf;
 use crate::records::Watch;
+use crate::records::holds_for;
 use crate::records::holds_section;
 use crate::records::is_of;
-use crate::records::taken_by;
 pub use crate::records::wide;
 ghost use mathlib.Core.Path.{_≡_};
 ghost use Prim.Native.Nat.{_≤_, _<_};
-ghost use Rattle.logic.specs.Loops.{count};
-ghost use Rattle.shelf_state.specs.Records.{blankWatch, blankPlace, placeAt, findWatch, freeRecord, placeOf, freePlace, takenBy, setWatch, release, dropped, emptyShelf};
-ghost use Rattle.shelf_state.specs.Rules.{quotaOf, heldBy};
-ghost use Rattle.shelf_state.specs.Tests.{roomFor};
+ghost use Rattle.shelf_state.specs.Records.{noEdition, blankWatch, blankPlace, findWatch, firstClosed, findPlace, firstFree, setWatch, release, dropped, emptyShelf};
+ghost use Rattle.shelf_state.specs.Rules.{quotaOf, heldIn};
+ghost use Rattle.shelf_state.specs.Tests.{roomIn};
 pub use crate::records::key_of;
 pub use crate::records::wide_word;
 
 // The first open watch below n with the key, or n.
-pub fn find_watch(s: Shelf, n: usize, a: Asked) -> usize
+pub fn find_watch(ws: [Watch; 16], n: usize, a: Asked) -> usize
     requires { ⌜ n ≤ 16 ⌝ }
-    ensures { λ r. ⌜ r ≡ findWatch s n a ⌝ }
+    ensures { λ r. ⌜ r ≡ findWatch ws n a ⌝ }
 {
     let mut i = 0;
     while i < n {
-        let w = s.watches[i];
+        let w = ws[i];
         if is_of(w, a) {
             return i;
         }
@@ -33,15 +33,14 @@ pub fn find_watch(s: Shelf, n: usize, a: Asked) -> usize
     n
 }
 
-// The lowest record that is not open, or the number of records.
-pub fn free_record(s: Shelf) -> usize
-    requires { ⌜ s .records ≤ 16 ⌝ }
-    ensures { λ r. ⌜ r ≡ freeRecord s ⌝ }
+// The lowest record that is not open, or n.
+pub fn free_record(ws: [Watch; 16], n: usize) -> usize
+    requires { ⌜ n ≤ 16 ⌝ }
+    ensures { λ r. ⌜ r ≡ firstClosed ws n ⌝ }
 {
-    let n = s.records;
     let mut i = 0;
     while i < n {
-        let w = s.watches[i];
+        let w = ws[i];
         if w.live {
             i += 1;
         } else {
@@ -51,15 +50,14 @@ pub fn free_record(s: Shelf) -> usize
     n
 }
 
-// The place with the watch's section of that number, or the number of places.
-pub fn place_of(s: Shelf, w: usize, number: usize) -> usize
-    requires { ⌜ s .count ≤ 64 ⌝ }
-    ensures { λ r. ⌜ r ≡ placeOf s w number ⌝ }
+// The first place below n with the watch's section of that number, or n.
+pub fn find_place(ps: [Place; 64], n: usize, w: usize, number: usize) -> usize
+    requires { ⌜ n ≤ 64 ⌝ }
+    ensures { λ r. ⌜ r ≡ findPlace ps n w number ⌝ }
 {
-    let n = s.count;
     let mut i = 0;
     while i < n {
-        let p = s.places[i];
+        let p = ps[i];
         if holds_section(p, w, number) {
             return i;
         }
@@ -68,15 +66,14 @@ pub fn place_of(s: Shelf, w: usize, number: usize) -> usize
     n
 }
 
-// The lowest free place, or the number of places.
-pub fn free_place(s: Shelf) -> usize
-    requires { ⌜ s .count ≤ 64 ⌝ }
-    ensures { λ r. ⌜ r ≡ freePlace s ⌝ }
+// The lowest free place below n, or n.
+pub fn free_place(ps: [Place; 64], n: usize) -> usize
+    requires { ⌜ n ≤ 64 ⌝ }
+    ensures { λ r. ⌜ r ≡ firstFree ps n ⌝ }
 {
-    let n = s.count;
     let mut i = 0;
     while i < n {
-        let p = s.places[i];
+        let p = ps[i];
         if p.used {
             i += 1;
         } else {
@@ -86,17 +83,16 @@ pub fn free_place(s: Shelf) -> usize
     n
 }
 
-// How many sections the watch holds.
-pub fn held_by(s: Shelf, w: usize) -> usize
-    requires { ⌜ s .count ≤ 64 ⌝ }
-    ensures { λ r. ⌜ r ≡ heldBy s w ⌝ }
+// How many sections the watch holds in the first n places.
+pub fn held_in(ps: [Place; 64], n: usize, w: usize) -> usize
+    requires { ⌜ n ≤ 64 ⌝ }
+    ensures { λ r. ⌜ r ≡ heldIn ps n w ⌝ }
 {
-    let n = s.count;
     let mut held = 0;
     let mut i = 0;
     while i < n {
-        let p = s.places[i];
-        if taken_by(p, w) {
+        let p = ps[i];
+        if holds_for(p, w) {
             held += 1;
         }
         i += 1;
@@ -110,20 +106,18 @@ pub fn quota_of(w: Watch) -> usize
     if w.live { wide(w.quota) } else { 0 }
 }
 
-// Whether the quotas of the open watches and `extra` more fit the places.
-pub fn room(s: Shelf, extra: usize) -> bool
-    requires { ⌜ s .records ≤ 16 ⌝ }
-    ensures { λ r. ⌜ r ≡ roomFor s extra ⌝ }
+// Whether the quotas of the first n watches and `extra` more fit so many places.
+pub fn room(ws: [Watch; 16], n: usize, places: usize, extra: usize) -> bool
+    requires { ⌜ n ≤ 16 ⌝ }
+    ensures { λ r. ⌜ r ≡ roomIn ws n places extra ⌝ }
 {
-    let n = s.records;
-    let all = s.count;
-    if extra > all {
+    if extra > places {
         return false;
     }
-    let mut left = all - extra;
+    let mut left = places - extra;
     let mut i = 0;
     while i < n {
-        let w = s.watches[i];
+        let w = ws[i];
         let q = quota_of(w);
         if q > left {
             return false;
@@ -143,6 +137,17 @@ pub fn set_watch(s: Shelf, i: usize, w: Watch) -> Shelf
     t
 }
 
+// Nothing has been heard.
+pub fn no_edition() -> Edition
+    ensures { λ r. ⌜ r ≡ noEdition ⌝ }
+{
+    Edition {
+        heard: false,
+        version: 0,
+        last: 0,
+    }
+}
+
 pub fn blank_watch() -> Watch
     ensures { λ r. ⌜ r ≡ blankWatch ⌝ }
 {
@@ -155,9 +160,7 @@ pub fn blank_watch() -> Watch
         live: false,
         key: k,
         quota: 0,
-        heard: false,
-        version: 0,
-        last: 0,
+        edition: no_edition(),
     }
 }
 
@@ -187,19 +190,20 @@ pub fn empty_shelf(count: usize, records: usize) -> Shelf
 }
 
 // The place, free if it was the watch's.
-fn released(p: Place, w: usize) -> Place
+pub fn released(p: Place, w: usize) -> Place
     ensures { λ r. ⌜ r ≡ release w p ⌝ }
 {
-    if taken_by(p, w) { blank_place() } else { p }
+    if holds_for(p, w) { blank_place() } else { p }
 }
 
-// The shelf without the watch's sections.
-pub fn drop_all(s: Shelf, w: usize) -> Shelf
-    requires { ⌜ s .count ≤ 64 ⌝ }
-    ensures { λ r. ⌜ r ≡ dropped s w ⌝ }
+// The shelf without the watch's sections, and with this record in its place.
+pub fn renew(s: Shelf, w: usize, x: Watch) -> Shelf
+    requires { ⌜ (w < 16) × (s .count ≤ 64) ⌝ }
+    ensures { λ r. ⌜ r ≡ setWatch (dropped s w) w x ⌝ }
 {
     let n = s.count;
     let mut t = s;
+    t.watches[w] = x;
     let mut i = 0;
     while i < n {
         let p = released(t.places[i], w);

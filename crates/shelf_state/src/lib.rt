@@ -4,6 +4,7 @@ mod records;
 mod rules;
 
 pub use records::Asked;
+pub use records::Edition;
 pub use records::Key;
 pub use records::Place;
 pub use records::Shelf;

@@ -1,9 +1,10 @@
 // The records, narrow, and keys: how they are kept, made and compared.
 ghost use mathlib.Core.Path.{_≡_};
 ghost use Prim.Native.Nat.{_<_};
-ghost use Rattle.shelf_state.specs.Records.{asked, keyOf, sameKey, isOf, takenBy, holds};
+ghost use Rattle.shelf_state.specs.Records.{asked, keyOf, sameKey, isOf, holdsFor, holds};
 
 // A watch's key as its record keeps it.
+#[repr(C)]
 pub struct Key {
     pub pid: u16,
     pub table_id: u8,
@@ -17,14 +18,18 @@ pub struct Asked {
     pub extension: u16,
 }
 
-// A watch, with its edition once anything is heard.
+// The edition that a watch collects: none where nothing has been heard.
+pub struct Edition {
+    pub heard: bool,
+    pub version: u8,
+    pub last: u8,
+}
+
 pub struct Watch {
     pub live: bool,
     pub key: Key,
     pub quota: u8,
-    pub heard: bool,
-    pub version: u8,
-    pub last: u8,
+    pub edition: Edition,
 }
 
 // A place, free or with a section of a watch.
@@ -97,8 +102,8 @@ pub fn is_of(w: Watch, a: Asked) -> bool
     if w.live { same_key(w.key, a) } else { false }
 }
 
-pub fn taken_by(p: Place, w: usize) -> bool
-    ensures { λ r. ⌜ r ≡ takenBy p w ⌝ }
+pub fn holds_for(p: Place, w: usize) -> bool
+    ensures { λ r. ⌜ r ≡ holdsFor p w ⌝ }
 {
     if p.used { wide(p.watch) == w } else { false }
 }
@@ -106,7 +111,7 @@ pub fn taken_by(p: Place, w: usize) -> bool
 pub fn holds_section(p: Place, w: usize, number: usize) -> bool
     ensures { λ r. ⌜ r ≡ holds p w number ⌝ }
 {
-    if taken_by(p, w) {
+    if holds_for(p, w) {
         wide(p.number) == number
     } else {
         false

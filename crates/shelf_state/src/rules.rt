@@ -46,7 +46,8 @@ pub fn in_range(a: Asked, quota: usize) -> bool
 fn last_ok(w: Watch) -> bool
     ensures { λ r. ⌜ r ≡ lastOk w ⌝ }
 {
-    if w.heard { w.last < w.quota } else { true }
+    let e = w.edition;
+    if e.heard { e.last < w.quota } else { true }
 }
 
 // Whether a watch's own numbers are sound.
@@ -64,30 +65,29 @@ fn watch_sound(w: Watch) -> bool
 }
 
 // Whether no open watch below i has the key of the watch at i.
-fn key_is_new(s: Shelf, i: usize) -> bool
+fn key_is_new(ws: [Watch; 16], i: usize) -> bool
     requires { ⌜ i < 16 ⌝ }
-    ensures { λ r. ⌜ r ≡ keyIsNew s i ⌝ }
+    ensures { λ r. ⌜ r ≡ keyIsNew ws i ⌝ }
 {
-    let w = s.watches[i];
+    let w = ws[i];
     if w.live {
         let a = asked_of(w.key);
-        return find_watch(s, i, a) == i;
+        return find_watch(ws, i, a) == i;
     }
     true
 }
 
-fn watches_ok(s: Shelf) -> bool
-    requires { ⌜ s .records ≤ 16 ⌝ }
-    ensures { λ r. ⌜ r ≡ watchesOk s ⌝ }
+fn watches_ok(ws: [Watch; 16], n: usize) -> bool
+    requires { ⌜ n ≤ 16 ⌝ }
+    ensures { λ r. ⌜ r ≡ watchesOk ws n ⌝ }
 {
-    let n = s.records;
     let mut i = 0;
     while i < n {
-        let w = s.watches[i];
+        let w = ws[i];
         if !watch_sound(w) {
             return false;
         }
-        if !key_is_new(s, i) {
+        if !key_is_new(ws, i) {
             return false;
         }
         i += 1;
@@ -103,8 +103,9 @@ fn sound_under(w: Watch, p: Place) -> bool
         return false;
     }
     if w.live {
-        if w.heard {
-            return p.number <= w.last;
+        let e = w.edition;
+        if e.heard {
+            return p.number <= e.last;
         }
     }
     false
@@ -126,7 +127,7 @@ fn flag_of(p: Place) -> usize
 
 // One pass: the flags say which sections were met.
 fn places_ok(s: Shelf) -> bool
-    requires { ⌜ (s .count ≤ 64) × (s .records ≤ 16) × (watchesOk s ≡ true) ⌝ }
+    requires { ⌜ (s .count ≤ 64) × (s .records ≤ 16) × (watchesOk (s .watches) (s .records) ≡ true) ⌝ }
     ensures { λ r. ⌜ r ≡ placesOk s ⌝ }
 {
     let n = s.count;
@@ -195,8 +196,9 @@ pub fn obeys_rules(s: Shelf, area: &[u8]) -> bool
     ensures { λ r. ⌜ r ≡ obeys s (length (now (area .entry))) ⌝ }
 {
     if sizes_fit(s, area.len()) {
-        if watches_ok(s) {
-            if room(s, 0) {
+        let ws = s.watches;
+        if watches_ok(ws, s.records) {
+            if room(ws, s.records, s.count, 0) {
                 return places_ok(s);
             }
         }

@@ -3,8 +3,9 @@ use bytes_at::byte;
 use bytes_at::word;
 use part::part_of;
 use shelf::Change;
-use shelf::Kept;
+use shelf::Fetched;
 use shelf::Progress;
+use shelf_bytes::named;
 use shelf_state::Asked;
 use shelf_state::Shelf;
 use test_lines::Vector;
@@ -15,11 +16,7 @@ use test_lines::say;
 use test_lines::told;
 
 fn key(b: &[u8]) -> Asked {
-    Asked {
-        pid: word(b, 0),
-        table_id: byte(b, 2),
-        extension: word(b, 3) as u16,
-    }
+    named(word(b, 0), byte(b, 2), word(b, 3) as u16)
 }
 
 fn show_change(answer: Change) {
@@ -42,13 +39,13 @@ fn show_progress(answer: Progress) {
 }
 
 // A section that was fetched is told by its place and a digest of its bytes.
-fn show_kept(answer: Kept, area: &[u8]) {
+fn show_fetched(answer: Fetched, area: &[u8]) {
     match answer {
-        Kept::Refused(k) => refused(k),
-        Kept::At { start, length } => {
-            number(start);
-            number(length);
-            number(of_bytes(part_of(area, start, length)));
+        Fetched::Refused(k) => refused(k),
+        Fetched::At(p) => {
+            number(p.start);
+            number(p.length);
+            number(of_bytes(part_of(area, p.start, p.length)));
         }
     }
 }
@@ -94,7 +91,7 @@ fn fetches(s: Shelf, area: &[u8], b: &[u8]) -> Shelf {
     let r = shelf::fetch(s, area, key(b), word(b, 5));
     say(b" fetch");
     let answer = r.answer;
-    show_kept(answer, area);
+    show_fetched(answer, area);
     r.shelf
 }
 

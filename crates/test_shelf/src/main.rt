@@ -1,10 +1,10 @@
 // Runs the shelves and the histories of calls of tests/test_shelf.py. Of the op r the bytes are a whole shelf (rules.rt); every other op
 // is the letter of a call on the one shelf that goes from call to call (calls.rt), with an area whose bytes stay.
 mod calls;
-mod digest;
 mod rules;
 
 use part::part_of;
+use shelf_digest::of_records;
 use shelf_state::Shelf;
 use test_lines::Vector;
 use test_lines::digest::of_bytes;
@@ -18,7 +18,7 @@ struct Next {
 
 fn call(v: Vector, s: Shelf, area: &mut [u8], b: &[u8]) -> Shelf {
     let t = calls::answer(v, s, area, b);
-    number(digest::of_records(t));
+    number(of_records(t));
     number(of_bytes(area));
     t
 }

@@ -18,19 +18,19 @@ unfolding fetched
 returns c = stop _ _ _ _ (sym (c .before .obeys-rules .ensures) ∙ not-true _ (c .if1 .taken)) refl
 
 find-watch-requires : tie.Need-find-watch-requires
-find-watch-requires c κs = rules-of _ _ _ (c .before .obeys-rules .ensures) (c .if1 .left) .size .records-16
+find-watch-requires c κs = rules-of _ _ _ (c .before .before .obeys-rules .ensures) (c .before .if1 .left) .size .records-16
 
 returns-2 : tie.Need-returns-2
 unfolding fetched
-returns-2 c = go-on _ _ _ _ (sym (c .before .before .before .obeys-rules .ensures) ∙ not-false _ (c .before .before .if1 .left)) (stop _ _ _ _ (any-no _ _ (c .before .find-watch .ensures) (c .if2 .taken)) refl)
+returns-2 c = go-on _ _ _ _ (sym (c .before .before .before .before .obeys-rules .ensures) ∙ not-false _ (c .before .before .before .if1 .left)) (stop _ _ _ _ (any-no _ _ (c .before .find-watch .ensures) (c .if2 .taken)) refl)
 
 fetch-from-requires : tie.Need-fetch-from-requires
-fetch-from-requires c κs = rules-of _ _ _ (c .before .before .before .obeys-rules .ensures) (c .before .before .if1 .left) .size .count-64
+fetch-from-requires c κs = rules-of _ _ _ (c .before .before .before .before .obeys-rules .ensures) (c .before .before .before .if1 .left) .size .count-64
 
 returns-3 : tie.Need-returns-3
 unfolding fetched
-returns-3 c = go-on _ _ _ _ (sym (c .before .before .before .before .obeys-rules .ensures) ∙ not-false _ (c .before .before .before .if1 .left)) (go-on _ _ _ _ (any-yes _ _ (c .before .before .find-watch .ensures) (c .before .if2 .left))
-    (c .fetch-from .ensures ∙ ap (λ (w : ℕ). fetchedFrom (c .before .before .before .before .before .before .args .s) w (c .before .before .before .before .before .before .args .number)) (c .before .before .find-watch .ensures)))
+returns-3 c = go-on _ _ _ _ (sym (c .before .before .before .before .before .obeys-rules .ensures) ∙ not-false _ (c .before .before .before .before .if1 .left)) (go-on _ _ _ _ (any-yes _ _ (c .before .before .find-watch .ensures) (c .before .if2 .left))
+    (c .fetch-from .ensures ∙ ap (λ (w : ℕ). fetchedFrom (c .before .before .before .before .before .before .before .args .s) w (c .before .before .before .before .before .before .before .args .number)) (c .before .before .find-watch .ensures)))
 
 pub fetch-spec : {M : Type 1} → statement M
 fetch-spec =

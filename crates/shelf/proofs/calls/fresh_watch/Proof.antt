@@ -1,5 +1,6 @@
 -- `fresh_watch` meets its contract: what is in range fits the narrow record.
 use native.Mathlib.Omega.{arith}
+use borrow.Author.Needs.{needs}
 use Rattle.shelf_state.proofs.RuleLaws.{in-range}
 use Rattle.shelf.proofs.calls.fresh_watch.Statement.{statement}
 use Rattle.shelf.proofs.calls.fresh_watch.Tie as tie
@@ -10,8 +11,11 @@ key-of-requires c κs = let r = in-range _ _ (c .pre) in (omega (arith, r .pid-1
 cast-t4 : tie.Need-cast-t4
 cast-t4 c = omega (arith, in-range _ _ (c .before .pre) .quota-64)
 
+no-edition-requires : tie.Need-no-edition-requires
+no-edition-requires c κs = search needs
+
 returns : tie.Need-returns
-returns c = rw (c .key-of .ensures)
+returns c = rw (c .before .key-of .ensures, c .no-edition .ensures)
 
 pub fresh-watch-spec : {M : Type 1} → statement M
-fresh-watch-spec = tie.close (tie.spec key-of-requires cast-t4 returns)
+fresh-watch-spec = tie.close (tie.spec key-of-requires cast-t4 no-edition-requires returns)

@@ -35,7 +35,7 @@ returns-3 c = go-on _ _ _ _ (ap not (any-no _ _ (c .before .before .before .befo
     (go-on _ _ _ _ (any-yes _ _ (c .before .before .before .free-record .ensures) (c .before .before .if2 .left)) (stop _ _ _ _ (sym (c .before .room .ensures) ∙ not-true _ (c .if3 .taken)) refl))
 
 fresh-watch-requires : tie.Need-fresh-watch-requires
-fresh-watch-requires c κs = c .before .before .before .before .before .before .pre .1
+fresh-watch-requires c κs = c .before .before .before .before .before .before .before .pre .1
 
 set-watch-requires : tie.Need-set-watch-requires
 set-watch-requires c κs = search needs
@@ -44,7 +44,7 @@ returns-4 : tie.Need-returns-4
 unfolding openedInRange
 returns-4 c = go-on _ _ _ _ (ap not (any-no _ _ (c .before .before .before .before .before .before .before .find-watch .ensures) (c .before .before .before .before .before .before .if1 .left)))
     (go-on _ _ _ _ (any-yes _ _ (c .before .before .before .before .before .free-record .ensures) (c .before .before .before .before .if2 .left)) (go-on _ _ _ _ (sym (c .before .before .before .room .ensures) ∙ not-false _ (c .before .before .if3 .left))
-    (ap (answered tt) (c .set-watch .ensures ∙ ap₂ (λ (i : ℕ) (x : Watch). setWatch (c .before .before .before .before .before .before .before .before .args .s) i x) (c .before .before .before .before .before .free-record .ensures) (c .before .fresh-watch .ensures)))))
+    (ap (answered tt) (c .set-watch .ensures ∙ ap₂ (λ (i : ℕ) (x : Watch). setWatch (c .before .before .before .before .before .before .before .before .before .args .s) i x) (c .before .before .before .before .before .free-record .ensures) (c .before .fresh-watch .ensures)))))
 
 pub open-in-range-spec : {M : Type 1} → statement M
 open-in-range-spec =

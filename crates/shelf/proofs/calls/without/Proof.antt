@@ -1,24 +1,19 @@
 -- `without` meets its contract.
-use mathlib.Core.Path.{_∙_, ap₂}
+use mathlib.Core.Path.{_∙_, ap}
 use borrow.Author.Needs.{needs}
-use Rattle.shelf_state.specs.Records.{setWatch}
-use Rattle.shelf_state.specs.declared.records.Shelf.{Shelf}
+use Rattle.shelf_state.specs.Records.{dropped, setWatch}
 use Rattle.shelf_state.specs.declared.records.Watch.{Watch}
 use Rattle.shelf.proofs.calls.without.Statement.{statement}
 use Rattle.shelf.proofs.calls.without.Tie as tie
 
-drop-all-requires : tie.Need-drop-all-requires
-drop-all-requires c κs = search needs
-
 blank-watch-requires : tie.Need-blank-watch-requires
 blank-watch-requires c κs = search needs
 
-set-watch-requires : tie.Need-set-watch-requires
-set-watch-requires c κs = search needs
+renew-requires : tie.Need-renew-requires
+renew-requires c κs = search needs
 
 returns : tie.Need-returns
-returns c = c .set-watch .ensures ∙ ap₂ (λ (x : Shelf) (y : Watch). setWatch x (c .before .before .before .args .w) y) (c .before .before .drop-all .ensures) (c .before .blank-watch .ensures)
+returns c = let g = c .before .before .args in c .renew .ensures ∙ ap (λ (x : Watch). setWatch (dropped (g .s) (g .w)) (g .w) x) (c .before .blank-watch .ensures)
 
 pub without-spec : {M : Type 1} → statement M
-without-spec =
-    tie.close (tie.spec drop-all-requires blank-watch-requires set-watch-requires returns)
+without-spec = tie.close (tie.spec blank-watch-requires renew-requires returns)

@@ -1,6 +1,6 @@
 -- `judge` meets its contract.
 use borrow.Author.Needs.{needs}
-use Rattle.shelf.specs.Delivery.{judged}
+use Rattle.shelf.specs.Views.{judged}
 use Rattle.shelf.proofs.delivery.judge.Statement.{statement}
 use Rattle.shelf.proofs.delivery.judge.Tie as tie
 

@@ -1,44 +1,43 @@
--- `keep` meets its contract: the bytes go where the place is.
-use mathlib.Core.Path.{_∙_}
-use native.Mathlib.Omega.{arith}
+-- `keep` meets its contract: 16, 17 and 18, then the watch.
+use mathlib.Core.Path.{_∙_, ap, sym}
 use borrow.Author.Needs.{needs}
-use Rattle.shelf.proofs.TakingLaws.{area-at, area-refused, obeys-count, outcome-at, outcome-refused, place-fits, quiet-at, quiet-refused}
+use Rattle.shelf_state.proofs.RuleLaws.{rules}
+use Rattle.shelf.proofs.OwnerLaws.{area-refused, by-after, for-owner, for-refused, ready-of}
+use Rattle.shelf.specs.Answers.{After}
+use Rattle.shelf.specs.Delivery.{ownerOutcome, quiet}
 use Rattle.shelf.proofs.delivery.keep.Statement.{statement}
 use Rattle.shelf.proofs.delivery.keep.Tie as tie
 
-take-requires : tie.Need-take-requires
-take-requires c κs = (obeys-count _ _ (c .before .before .pre .0), c .before .before .pre .1)
+find-owner-requires : tie.Need-find-owner-requires
+find-owner-requires c κs = rules _ _ (c .before .before .before .pre .0) .size .records-16
 
-enum-known-answer : tie.Need-enum-known-answer
-enum-known-answer c = search needs
+enum-known-k : tie.Need-enum-known-k
+enum-known-k c = search needs
 
-enum-known-answer-2 : tie.Need-enum-known-answer-2
-enum-known-answer-2 c = search needs
+enum-known-w : tie.Need-enum-known-w
+enum-known-w c = search needs
 
-mul-store : tie.Need-mul-store
-mul-store c = let f = place-fits _ _ _ _ _ _ (c .before .before .before .before .before .before .before .before .pre .0) (c .before .before .before .before .before .before .before .before .pre .1) (outcome-at _ _ (c .before .before .before .before .before .take .ensures) _ (c .before .before .answer2 .given .1)) in omega (arith, f .0)
-
-store-requires : tie.Need-store-requires
-store-requires c κs = place-fits _ _ _ _ _ _ (c .before .before .before .before .before .before .before .before .pre .0) (c .before .before .before .before .before .before .before .before .pre .1) (outcome-at _ _ (c .before .before .before .before .before .take .ensures) _ (c .before .before .answer2 .given .1)) .1
+receive-requires : tie.Need-receive-requires
+receive-requires c κs = ready-of _ _ (c .before .before .before .before .before .before .before .before .args .a) _ _ _ (c .before .before .before .before .before .before .before .before .pre .0) (c .before .before .before .before .before .before .before .before .pre .1) (sym (c .before .before .before .before .find-owner .ensures) ∙ ap ownerOutcome (c .before .before .w .given .1))
 
 returns : tie.Need-returns
-returns c = (quiet-refused _ _ (c .before .before .before .before .take .ensures) _ (c .before .answer .given .1), area-refused _ _ _ _ (outcome-refused _ _ (c .before .before .before .before .take .ensures) _ (c .before .answer .given .1)))
+returns c = let e = for-refused _ _ _ _ _ (sym (c .before .before .before .find-owner .ensures) ∙ ap ownerOutcome (c .before .k .given .1)) in
+    (sym (ap quiet e), area-refused _ _ _ _ (ap (λ (x : After _). x .outcome) e))
 
 same-length : tie.Need-same-length
 same-length c = search needs
 
 returns-2 : tie.Need-returns-2
-returns-2 c = (quiet-at _ _ (c .before .before .before .before .before .before .before .before .take .ensures) _ (c .before .before .before .before .before .answer2 .given .1), c .before .before .store .ensures ∙ area-at _ _ _ _ (outcome-at _ _ (c .before .before .before .before .before .before .before .before .take .ensures) _ (c .before .before .before .before .before .answer2 .given .1)))
+returns-2 c = by-after _ _ _ _ (sym (for-owner _ _ _ _ _ (sym (c .before .before .before .before .before .before .before .find-owner .ensures) ∙ ap ownerOutcome (c .before .before .before .before .before .w .given .1)))) (c .before .before .receive .ensures)
 
 pub keep-spec : {M : Type 1} → statement M
 keep-spec =
     tie.close
     (tie.spec
-    take-requires
-    enum-known-answer
-    enum-known-answer-2
-    mul-store
-    store-requires
+    find-owner-requires
+    enum-known-k
+    enum-known-w
+    receive-requires
     returns
     same-length
     returns-2)

@@ -3,7 +3,7 @@ use native.Mathlib.Omega.{arith}
 use borrow.Author.Tests.{eq-eqb, ne-eqb}
 use borrow.Author.Needs.{needs}
 use Rattle.logic.specs.Loops.{_&_}
-use Rattle.shelf.specs.Delivery.{sameEdition}
+use Rattle.shelf.specs.Views.{sameEdition}
 use Rattle.shelf.proofs.delivery.same_edition.Statement.{statement}
 use Rattle.shelf.proofs.delivery.same_edition.Tie as tie
 

@@ -6,15 +6,15 @@ use native.Mathlib.Omega.{arith}
 use borrow.Author.Count.{below-more, below-none}
 use borrow.Author.Needs.{needs}
 use Rattle.logic.proofs.LoopLaws.{first-at, first-none}
-use Rattle.shelf_state.specs.Records.{isOf, watchAt}
+use Rattle.shelf_state.specs.Records.{isOf, watchIn}
 use Rattle.shelf_state.proofs.inner.find_watch.Statement.{statement}
 use Rattle.shelf_state.proofs.inner.find_watch.Tie as tie
 
 abbrev Inv-loop : tie.InvT-loop
-Inv-loop n a s i₀ i = (i ≤ n) × ((j : ℕ) → j < i → isOf (watchAt s j) a ≡ false)
+Inv-loop n a ws i₀ i = (i ≤ n) × ((j : ℕ) → j < i → isOf (watchIn ws j) a ≡ false)
 
 abbrev μ-loop : tie.MeasureT-loop
-μ-loop n a s i₀ i = n - i
+μ-loop n a ws i₀ i = n - i
 
 loop-holds : tie.Need-loop-holds Inv-loop μ-loop
 loop-holds c = (search needs, below-none _)
@@ -22,8 +22,8 @@ loop-holds c = (search needs, below-none _)
 mul-w : tie.Need-mul-w Inv-loop μ-loop
 mul-w c = search needs
 
-element-copy-out-w : tie.Need-element-copy-out-w Inv-loop μ-loop
-element-copy-out-w c = search needs
+array-copy-out-w : tie.Need-array-copy-out-w Inv-loop μ-loop
+array-copy-out-w c = search needs
 
 is-of-requires : tie.Need-is-of-requires Inv-loop μ-loop
 is-of-requires c κs = search needs
@@ -51,7 +51,7 @@ find-watch-spec =
     μ-loop
     loop-holds
     mul-w
-    element-copy-out-w
+    array-copy-out-w
     is-of-requires
     returns
     add-i

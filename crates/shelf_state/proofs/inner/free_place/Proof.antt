@@ -6,15 +6,15 @@ use native.Mathlib.Omega.{arith}
 use borrow.Author.Count.{below-more, below-none}
 use borrow.Author.Needs.{needs}
 use Rattle.logic.proofs.LoopLaws.{first-at, first-none}
-use Rattle.shelf_state.specs.Records.{placeAt}
+use Rattle.shelf_state.specs.Records.{placeIn}
 use Rattle.shelf_state.proofs.inner.free_place.Statement.{statement}
 use Rattle.shelf_state.proofs.inner.free_place.Tie as tie
 
 abbrev Inv-loop : tie.InvT-loop
-Inv-loop s n i₀ i = (i ≤ n) × ((j : ℕ) → j < i → not (placeAt s j .used) ≡ false)
+Inv-loop n ps i₀ i = (i ≤ n) × ((j : ℕ) → j < i → not (placeIn ps j .used) ≡ false)
 
 abbrev μ-loop : tie.MeasureT-loop
-μ-loop s n i₀ i = n - i
+μ-loop n ps i₀ i = n - i
 
 loop-holds : tie.Need-loop-holds Inv-loop μ-loop
 loop-holds c = (search needs, below-none _)
@@ -22,8 +22,8 @@ loop-holds c = (search needs, below-none _)
 mul-p : tie.Need-mul-p Inv-loop μ-loop
 mul-p c = search needs
 
-element-copy-out-p : tie.Need-element-copy-out-p Inv-loop μ-loop
-element-copy-out-p c = search needs
+array-copy-out-p : tie.Need-array-copy-out-p Inv-loop μ-loop
+array-copy-out-p c = search needs
 
 add-i : tie.Need-add-i Inv-loop μ-loop
 add-i c = search needs
@@ -48,7 +48,7 @@ free-place-spec =
     μ-loop
     loop-holds
     mul-p
-    element-copy-out-p
+    array-copy-out-p
     add-i
     loop-less
     loop-again

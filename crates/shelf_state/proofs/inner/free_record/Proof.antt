@@ -6,15 +6,15 @@ use native.Mathlib.Omega.{arith}
 use borrow.Author.Count.{below-more, below-none}
 use borrow.Author.Needs.{needs}
 use Rattle.logic.proofs.LoopLaws.{first-at, first-none}
-use Rattle.shelf_state.specs.Records.{watchAt}
+use Rattle.shelf_state.specs.Records.{watchIn}
 use Rattle.shelf_state.proofs.inner.free_record.Statement.{statement}
 use Rattle.shelf_state.proofs.inner.free_record.Tie as tie
 
 abbrev Inv-loop : tie.InvT-loop
-Inv-loop s n i₀ i = (i ≤ n) × ((j : ℕ) → j < i → not (watchAt s j .live) ≡ false)
+Inv-loop n ws i₀ i = (i ≤ n) × ((j : ℕ) → j < i → not (watchIn ws j .live) ≡ false)
 
 abbrev μ-loop : tie.MeasureT-loop
-μ-loop s n i₀ i = n - i
+μ-loop n ws i₀ i = n - i
 
 loop-holds : tie.Need-loop-holds Inv-loop μ-loop
 loop-holds c = (search needs, below-none _)
@@ -22,8 +22,8 @@ loop-holds c = (search needs, below-none _)
 mul-w : tie.Need-mul-w Inv-loop μ-loop
 mul-w c = search needs
 
-element-copy-out-w : tie.Need-element-copy-out-w Inv-loop μ-loop
-element-copy-out-w c = search needs
+array-copy-out-w : tie.Need-array-copy-out-w Inv-loop μ-loop
+array-copy-out-w c = search needs
 
 add-i : tie.Need-add-i Inv-loop μ-loop
 add-i c = search needs
@@ -48,7 +48,7 @@ free-record-spec =
     μ-loop
     loop-holds
     mul-w
-    element-copy-out-w
+    array-copy-out-w
     add-i
     loop-less
     loop-again

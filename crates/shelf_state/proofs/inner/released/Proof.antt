@@ -5,19 +5,19 @@ use Rattle.shelf_state.specs.Records.{release}
 use Rattle.shelf_state.proofs.inner.released.Statement.{statement}
 use Rattle.shelf_state.proofs.inner.released.Tie as tie
 
-taken-by-requires : tie.Need-taken-by-requires
-taken-by-requires c κs = search needs
+holds-for-requires : tie.Need-holds-for-requires
+holds-for-requires c κs = search needs
 
 blank-place-requires : tie.Need-blank-place-requires
 blank-place-requires c κs = search needs
 
 returns : tie.Need-returns
 unfolding release
-returns c = rw (c .blank-place .ensures, sym (c .before .before .taken-by .ensures) ∙ c .before .if1 .taken)
+returns c = rw (c .blank-place .ensures, sym (c .before .before .holds-for .ensures) ∙ c .before .if1 .taken)
 
 returns-2 : tie.Need-returns-2
 unfolding release
-returns-2 c = rw (sym (c .before .taken-by .ensures) ∙ c .if1 .left)
+returns-2 c = rw (sym (c .before .holds-for .ensures) ∙ c .if1 .left)
 
 pub released-spec : {M : Type 1} → statement M
-released-spec = tie.close (tie.spec taken-by-requires blank-place-requires returns returns-2)
+released-spec = tie.close (tie.spec holds-for-requires blank-place-requires returns returns-2)

@@ -9,8 +9,8 @@ use Rattle.shelf_state.proofs.rules.key_is_new.Tie as tie
 mul-w : tie.Need-mul-w
 mul-w c = search needs
 
-element-copy-out-w : tie.Need-element-copy-out-w
-element-copy-out-w c = search needs
+array-copy-out-w : tie.Need-array-copy-out-w
+array-copy-out-w c = search needs
 
 asked-of-requires : tie.Need-asked-of-requires
 asked-of-requires c κs = search needs
@@ -29,4 +29,4 @@ returns-2 c = rw (c .if1 .left)
 pub key-is-new-spec : {M : Type 1} → statement M
 key-is-new-spec =
     tie.close
-    (tie.spec mul-w element-copy-out-w asked-of-requires find-watch-requires returns returns-2)
+    (tie.spec mul-w array-copy-out-w asked-of-requires find-watch-requires returns returns-2)

@@ -6,7 +6,7 @@ use Rattle.shelf_state.proofs.rules.last_ok.Tie as tie
 
 returns : tie.Need-returns
 unfolding _⇒_ lastOk
-returns c = rw (c .before .if1 .taken)
+returns c = rw (c .before .before .if1 .taken)
 
 returns-2 : tie.Need-returns-2
 unfolding _⇒_ lastOk

@@ -53,14 +53,14 @@ flag-of-requires : tie.Need-flag-of-requires Inv-loop μ-loop
 flag-of-requires c κs = search needs
 
 array-read-if4 : tie.Need-array-read-if4 Inv-loop μ-loop
-array-read-if4 c = let f = flag-small _ _ (c .before .before .before .before .before .before .before .before .before .before .before .pre .1) (c .before .before .before .before .before .before .before .before .before .before .before .pre .2) (owner-yes _ _ (c .before .before .before .before .before .wide .ensures .0) (c .before .before .before .before .if2 .left) (sym (c .before .before .sound-under .ensures) ∙ not-false _ (c .before .if3 .left))) in omega (arith, f .0, f .1, c .flag-of .ensures)
+array-read-if4 c = let f = flag-small (c .before .before .before .before .before .before .before .before .before .before .before .args .t1) _ (c .before .before .before .before .before .before .before .before .before .before .before .pre .1) (c .before .before .before .before .before .before .before .before .before .before .before .pre .2) (owner-yes _ _ (c .before .before .before .before .before .wide .ensures .0) (c .before .before .before .before .if2 .left) (sym (c .before .before .sound-under .ensures) ∙ not-false _ (c .before .if3 .left))) in omega (arith, f .0, f .1, c .flag-of .ensures)
 
 returns-3 : tie.Need-returns-3 Inv-loop μ-loop
-returns-3 c = let f = flag-small _ _ (c .before .before .before .before .before .before .before .before .before .before .before .before .pre .1) (c .before .before .before .before .before .before .before .before .before .before .before .before .pre .2) (owner-yes _ _ (c .before .before .before .before .before .before .wide .ensures .0) (c .before .before .before .before .before .if2 .left) (sym (c .before .before .before .sound-under .ensures) ∙ not-false _ (c .before .before .if3 .left))) in
+returns-3 c = let f = flag-small (c .before .before .before .before .before .before .before .before .before .before .before .before .args .t1) _ (c .before .before .before .before .before .before .before .before .before .before .before .before .pre .1) (c .before .before .before .before .before .before .before .before .before .before .before .before .pre .2) (owner-yes _ _ (c .before .before .before .before .before .before .wide .ensures .0) (c .before .before .before .before .before .if2 .left) (sym (c .before .before .before .sound-under .ensures) ∙ not-false _ (c .before .before .if3 .left))) in
     sym (all-fails _ _ _ (c .before .before .before .before .before .before .before .before .before .loop-test .taken) (place-twice _ _ (c .before .before .before .before .before .before .before .if1 .taken) (flag-is _ _ _ _ true (c .before .before .before .before .before .before .before .before .before .before .loop .inv .1) f (c .before .flag-of .ensures) (c .if4 .taken))))
 
 array-write-seen : tie.Need-array-write-seen Inv-loop μ-loop
-array-write-seen c = let f = flag-small _ _ (c .before .before .before .before .before .before .before .before .before .before .before .before .pre .1) (c .before .before .before .before .before .before .before .before .before .before .before .before .pre .2) (owner-yes _ _ (c .before .before .before .before .before .before .wide .ensures .0) (c .before .before .before .before .before .if2 .left) (sym (c .before .before .before .sound-under .ensures) ∙ not-false _ (c .before .before .if3 .left))) in omega (arith, f .0, f .1, c .before .flag-of .ensures)
+array-write-seen c = let f = flag-small (c .before .before .before .before .before .before .before .before .before .before .before .before .args .t1) _ (c .before .before .before .before .before .before .before .before .before .before .before .before .pre .1) (c .before .before .before .before .before .before .before .before .before .before .before .before .pre .2) (owner-yes _ _ (c .before .before .before .before .before .before .wide .ensures .0) (c .before .before .before .before .before .if2 .left) (sym (c .before .before .before .sound-under .ensures) ∙ not-false _ (c .before .before .if3 .left))) in omega (arith, f .0, f .1, c .before .flag-of .ensures)
 
 add-i : tie.Need-add-i Inv-loop μ-loop
 add-i c = search needs
@@ -72,7 +72,7 @@ loop-again : tie.Need-loop-again Inv-loop μ-loop
 loop-again c = ⊎-elim
     (λ u.
     let e = owner-yes _ _ (u .1 .ensures .0) (u .2 .left) (sym (u .4 .ensures) ∙ not-false _ (u .5 .left)) in
-    let f = flag-small _ _ (c .before .before .before .before .before .pre .1) (c .before .before .before .before .before .pre .2) e in (
+    let f = flag-small (c .before .before .before .before .before .args .t1) _ (c .before .before .before .before .before .pre .1) (c .before .before .before .before .before .pre .2) e in (
       search needs,
       subst (Seen _ _) (sym (u .8)) (seen-more _ _ _ _ (c .before .before .before .loop .inv .1) (u .0 .taken) f (u .6 .ensures)),
       below-more _ _ (c .before .before .before .loop .inv .2) (place-sound _ _ e (flag-is _ _ _ _ false (c .before .before .before .loop .inv .1) f (u .6 .ensures) (u .7 .left))),

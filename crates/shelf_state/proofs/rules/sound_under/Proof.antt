@@ -11,11 +11,11 @@ returns c = rw (lt-leb _ _ (c .if1 .taken))
 
 returns-2 : tie.Need-returns-2
 unfolding _&_ soundUnder
-returns-2 c = rw (le-leb _ _ (c .before .before .before .before .if1 .left), c .before .before .before .if2 .taken, c .before .before .if3 .taken)
+returns-2 c = rw (le-leb _ _ (c .before .before .before .before .before .if1 .left), c .before .before .before .before .if2 .taken, c .before .before .if3 .taken)
 
 returns-3 : tie.Need-returns-3
 unfolding _&_ soundUnder
-returns-3 c = rw (le-leb _ _ (c .before .before .if1 .left), c .before .if2 .taken, c .if3 .left)
+returns-3 c = rw (le-leb _ _ (c .before .before .before .if1 .left), c .before .before .if2 .taken, c .if3 .left)
 
 returns-4 : tie.Need-returns-4
 unfolding _&_ soundUnder

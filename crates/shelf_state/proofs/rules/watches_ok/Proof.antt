@@ -11,10 +11,10 @@ use Rattle.shelf_state.proofs.rules.watches_ok.Statement.{statement}
 use Rattle.shelf_state.proofs.rules.watches_ok.Tie as tie
 
 abbrev Inv-loop : tie.InvT-loop
-Inv-loop s n i₀ i = (i ≤ n) × ((j : ℕ) → j < i → watchOk s j ≡ true)
+Inv-loop n ws i₀ i = (i ≤ n) × ((j : ℕ) → j < i → watchOk ws j ≡ true)
 
 abbrev μ-loop : tie.MeasureT-loop
-μ-loop s n i₀ i = n - i
+μ-loop n ws i₀ i = n - i
 
 loop-holds : tie.Need-loop-holds Inv-loop μ-loop
 loop-holds c = (search needs, below-none _)
@@ -22,8 +22,8 @@ loop-holds c = (search needs, below-none _)
 mul-w : tie.Need-mul-w Inv-loop μ-loop
 mul-w c = search needs
 
-element-copy-out-w : tie.Need-element-copy-out-w Inv-loop μ-loop
-element-copy-out-w c = search needs
+array-copy-out-w : tie.Need-array-copy-out-w Inv-loop μ-loop
+array-copy-out-w c = search needs
 
 watch-sound-requires : tie.Need-watch-sound-requires Inv-loop μ-loop
 watch-sound-requires c κs = search needs
@@ -60,7 +60,7 @@ watches-ok-spec =
     μ-loop
     loop-holds
     mul-w
-    element-copy-out-w
+    array-copy-out-w
     watch-sound-requires
     returns
     key-is-new-requires

@@ -12,8 +12,8 @@ word-requires c κs = search needs
 large-buffer-requires : tie.Need-large-buffer-requires
 large-buffer-requires c κs = search needs
 
-given-requires : tie.Need-given-requires
-given-requires c κs = search needs
+read-requires : tie.Need-read-requires
+read-requires c κs = search needs
 
 array-borrow-prefix-area : tie.Need-array-borrow-prefix-area
 array-borrow-prefix-area c = search needs
@@ -34,7 +34,7 @@ answer-spec =
     (tie.spec
     word-requires
     large-buffer-requires
-    given-requires
+    read-requires
     array-borrow-prefix-area
     slice-aggregate-run
     run-requires
