@@ -1,0 +1,137 @@
+// The five calls on the records by value, for callers that hold no lent list of them; the calls on a lent list stand on these.
+use crate::changes::settle;
+use crate::records::Book;
+use crate::records::Ending;
+use crate::records::watch_in;
+use crate::replies::amount_in;
+use crate::replies::asked_in;
+use crate::replies::broken;
+use crate::replies::change_number;
+use crate::replies::sizes_fit;
+use crate::replies::tell_fetched;
+use crate::replies::tell_status;
+use crate::rows::number_at;
+use crate::rows::shelf_in;
+ghost use Rattle.lent.specs.Calls.{openingIn, closingIn, askingIn, fetchingIn, deliveryIn};
+ghost use lib.ListN.{set};
+ghost use mathlib.Core.List.{List};
+ghost use Rattle.lent.specs.Inner.{Ends, Gathered};
+ghost use Rattle.lent.specs.declared.records.LentWatch.{LentWatch};
+
+pub fn open(
+    b: Book,
+    places: &mut [u32],
+    area: &mut [u8],
+    section: &[u8],
+    question: &[u32],
+    reply: &mut [u32],
+) -> Ending
+    ensures { λ r. ⌜ Ends openingIn b (now (places .entry)) (now (area .entry)) (now (section .entry)) (now (question .entry)) (now (reply .entry)) r (now (places .exit)) (now (area .exit)) (now (reply .exit)) ⌝ }
+{
+    if !sizes_fit(question, reply) {
+        return broken(b.records);
+    }
+    let before = shelf_in(b, places);
+    let r = shelf::open(before, area, asked_in(question), amount_in(question));
+    let after = r.shelf;
+    let answer = r.answer;
+    settle(places, before, after, change_number(answer))
+}
+
+pub fn close(
+    b: Book,
+    places: &mut [u32],
+    area: &mut [u8],
+    section: &[u8],
+    question: &[u32],
+    reply: &mut [u32],
+) -> Ending
+    ensures { λ r. ⌜ Ends closingIn b (now (places .entry)) (now (area .entry)) (now (section .entry)) (now (question .entry)) (now (reply .entry)) r (now (places .exit)) (now (area .exit)) (now (reply .exit)) ⌝ }
+{
+    if !sizes_fit(question, reply) {
+        return broken(b.records);
+    }
+    let before = shelf_in(b, places);
+    let r = shelf::close(before, area, asked_in(question));
+    let after = r.shelf;
+    let answer = r.answer;
+    settle(places, before, after, change_number(answer))
+}
+
+pub fn status(
+    b: Book,
+    places: &mut [u32],
+    area: &mut [u8],
+    section: &[u8],
+    question: &[u32],
+    reply: &mut [u32],
+) -> Ending
+    ensures { λ r. ⌜ Ends askingIn b (now (places .entry)) (now (area .entry)) (now (section .entry)) (now (question .entry)) (now (reply .entry)) r (now (places .exit)) (now (area .exit)) (now (reply .exit)) ⌝ }
+{
+    if !sizes_fit(question, reply) {
+        return broken(b.records);
+    }
+    let before = shelf_in(b, places);
+    let r = shelf::status(before, area, asked_in(question));
+    let after = r.shelf;
+    let answer = r.answer;
+    let number = tell_status(reply, answer);
+    settle(places, before, after, number)
+}
+
+pub fn fetch(
+    b: Book,
+    places: &mut [u32],
+    area: &mut [u8],
+    section: &[u8],
+    question: &[u32],
+    reply: &mut [u32],
+) -> Ending
+    ensures { λ r. ⌜ Ends fetchingIn b (now (places .entry)) (now (area .entry)) (now (section .entry)) (now (question .entry)) (now (reply .entry)) r (now (places .exit)) (now (area .exit)) (now (reply .exit)) ⌝ }
+{
+    if !sizes_fit(question, reply) {
+        return broken(b.records);
+    }
+    let before = shelf_in(b, places);
+    let r = shelf::fetch(before, area, asked_in(question), amount_in(question));
+    let after = r.shelf;
+    let answer = r.answer;
+    let number = tell_fetched(reply, answer);
+    settle(places, before, after, number)
+}
+
+pub fn deliver(
+    b: Book,
+    places: &mut [u32],
+    area: &mut [u8],
+    section: &[u8],
+    question: &[u32],
+    reply: &mut [u32],
+) -> Ending
+    ensures { λ r. ⌜ Ends deliveryIn b (now (places .entry)) (now (area .entry)) (now (section .entry)) (now (question .entry)) (now (reply .entry)) r (now (places .exit)) (now (area .exit)) (now (reply .exit)) ⌝ }
+{
+    if !sizes_fit(question, reply) {
+        return broken(b.records);
+    }
+    let before = shelf_in(b, places);
+    let r = shelf::deliver(before, area, number_at(question, 0), section);
+    let after = r.shelf;
+    let answer = r.answer;
+    settle(places, before, after, change_number(answer))
+}
+
+// The book after a call that ended so.
+pub fn after(b: Book, e: Ending) -> Book
+    ensures { λ r. ⌜ ((ws : List LentWatch) → Gathered b ws → Gathered r (set ws (e .at) (e .watch))) ⌝ }
+{
+    let at = e.at;
+    if at >= b.records {
+        return b;
+    }
+    if at >= 16 {
+        return b;
+    }
+    let mut r = b;
+    r.watches[at] = watch_in(e.watch);
+    r
+}
