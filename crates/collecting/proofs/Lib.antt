@@ -1,0 +1,9 @@
+pub mod TurnLaws
+pub mod FirstHalf
+pub mod SecondHalf
+pub mod PromisedLaws
+pub mod AgreeLaws
+pub mod StretchLaws
+pub mod KnownLaws
+pub mod SampleLaws
+pub mod UselessLaws

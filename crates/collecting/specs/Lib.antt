@@ -1,0 +1,4 @@
+-- The definitions, in reading order.
+pub mod Collecting
+pub mod Samples
+pub mod Useless

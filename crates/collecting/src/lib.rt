@@ -1,0 +1,1 @@
+// The third demand: what is collected over stretches of calls. No code, only its statements and their proofs.
