@@ -26,4 +26,6 @@ speed:
 	@bash bench/writing.sh
 	@bash bench/titles.sh
 	@bash bench/shelf.sh
+	@bash bench/lent.sh
 	@bash bench/lister.sh
+	@bash bench/stack.sh

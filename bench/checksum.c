@@ -86,7 +86,7 @@ int main(void) {
     printf(" bytes       C ns    ours ns  C/ours\n");
     for (size_t k = 0; k < sizeof sizes / sizeof *sizes; k++)
         time_both(sizes[k]);
-    long taken = stack_of(on_the_stack, STACK);
+    long taken = stack_of(on_the_stack);
     same(c_register(bytes, LONGEST), result, LONGEST);
     printf("stack of a call over %d bytes: %ld bytes\n", LONGEST, taken);
     return 0;

@@ -1,5 +1,5 @@
-// The shelf: the test of its rules, through a status call, at several numbers of places; a delivery beside judging
-// and copying the section alone; and the stack that the calls take. Every answer is counted and checked.
+// The shelf: the test of its rules, through a status call, at several numbers of places; and a delivery beside judging
+// and copying the section alone. Every answer is counted and checked.
 #define _GNU_SOURCE
 #include <stdint.h>
 #include <stdio.h>
@@ -8,7 +8,6 @@
 
 #include "clock.h"
 #include "sections.h"
-#include "stack.h"
 
 uint8_t bench_judge(const uint8_t *s, size_t n);
 uint64_t bench_statuses(uint8_t *area, size_t size, size_t watches, size_t quota, const uint8_t *first, size_t n,
@@ -29,11 +28,7 @@ typedef struct {
 // The section with another version and number, behind those of the run.
 static void add(Run *r, const Section *s, unsigned version, unsigned number, unsigned last) {
     Section t = *s;
-    t.n -= 4;
-    t.bytes[5] = 0xC1 | version << 1;
-    t.bytes[6] = number;
-    t.bytes[7] = last;
-    seal(&t);
+    renumber(&t, version, number, last);
     memcpy(r->bytes + r->n, t.bytes, t.n);
     r->n += t.n;
     r->count++;
@@ -88,22 +83,13 @@ static double call_ns(const Work *w) {
     return (best_of(w, rounds) - best_of(w, 0)) * 1e9 / (rounds * each);
 }
 
-static const Work *volatile on_stack;
-
-static void on_the_stack(void) { done(on_stack, 1); }
-
-static long stack_taken(const Work *w) {
-    on_stack = w;
-    return stack_of(on_the_stack, STACK);
-}
-
 static void statuses(size_t watches, size_t places) {
     static Run first;
     Section s;
     no_event(&s);
     add_all(&first, &s, places / watches);
     Work w = {places, watches, &first, NULL};
-    printf("%6zu %8zu %12.0f %8ld\n", places, watches, call_ns(&w), stack_taken(&w));
+    printf("%6zu %8zu %12.0f\n", places, watches, call_ns(&w));
 }
 
 static double judge_ns(const Section *s) {
@@ -143,7 +129,7 @@ static double copy_ns(const Section *s) {
 static void delivery(const char *what, const Section *s, const Run *first, const Run *then) {
     Work w = {PLACES, WATCHES, first, then};
     double all = call_ns(&w), judge = judge_ns(s), copy = copy_ns(s);
-    printf("%-34s %-16s %6zu %10.0f %10.0f %8.0f %10.0f %8ld\n", s->name, what, s->n, all, judge, copy, all - judge - copy, stack_taken(&w));
+    printf("%-34s %-16s %6zu %10.0f %10.0f %8.0f %10.0f\n", s->name, what, s->n, all, judge, copy, all - judge - copy);
 }
 
 // Sections of the edition that is kept, to all places in turn; then another edition at every delivery.
@@ -159,13 +145,13 @@ static void deliveries(const Section *s) {
 
 int main(void) {
     static const size_t places[] = {1, 4, 8, 16, 32, 64};
-    printf("%6s %8s %12s %8s\n", "places", "watches", "status ns", "stack");
+    printf("%6s %8s %12s\n", "places", "watches", "status ns");
     for (size_t k = 0; k < sizeof places / sizeof *places; k++)
         statuses(1, places[k]);
     for (size_t k = 0; k < sizeof places / sizeof *places; k++)
         if (places[k] >= WATCHES)
             statuses(WATCHES, places[k]);
-    printf("\n%-34s %-16s %6s %10s %10s %8s %10s %8s\n", "section", "delivered", "bytes", "deliver ns", "judge ns", "copy ns", "beyond ns", "stack");
+    printf("\n%-34s %-16s %6s %10s %10s %8s %10s\n", "section", "delivered", "bytes", "deliver ns", "judge ns", "copy ns", "beyond ns");
     Section small, large;
     no_event(&small);
     deliveries(&small);

@@ -84,6 +84,6 @@ int main(int argc, char **argv) {
     fclose(f);
     double c = timed(c_titles), ours = timed(bench_titles);
     printf("%d titles, %zu bytes: C %.0f us, ours %.0f us, ours / C %.2f\n", TITLES, size, c * 1e6, ours * 1e6, ours / c);
-    printf("stack: %ld bytes\n", stack_of(on_the_stack, STACK));
+    printf("stack: %ld bytes\n", stack_of(on_the_stack));
     return 0;
 }

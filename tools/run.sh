@@ -3,8 +3,7 @@
 # has for it runs them, as in `rt check`. Without a program it prints the words that go before one (on x86-64 none).
 before=
 if [ "$(uname -m)" != x86_64 ]; then
-    home=${RATTLE_HOME:-$(dirname "$(dirname "$(readlink -f "$(command -v rt)")")")}
-    tools=$home/on/$(uname -m)/toolchain
+    tools=$(sh "$(dirname "$0")/kit.sh")
     before="$tools/bin/qemu-x86_64 $tools/lib/ld-linux-x86-64.so.2 --library-path $tools/lib"
 fi
 if [ $# -eq 0 ]; then

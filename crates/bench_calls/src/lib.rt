@@ -1,5 +1,6 @@
 // What the programs in bench/ measure, under C names.
 mod shelves;
+mod single;
 mod writers;
 
 use bytes_at::byte;
@@ -35,11 +36,11 @@ pub extern "C" fn bench_judge(s: &[u8]) -> u8
 }
 
 // One segment of type 1 into the output: 1 where it is text, and else 0.
-fn title(t: &[u8], s: &[u8], out: &mut [u16]) -> usize
+fn title(s: &[u8], out: &mut [u16]) -> usize
     requires { ⌜ length (now s) ≤ 255 ⌝ }
     ensures { λ r. ⌜ r ≤ 1 ⌝ }
 {
-    match segment::write(t, s, out, 0) {
+    match segment::write(true, s, out, 0) {
         Judged::Units(_k) => 1,
         Judged::Refused(_k) => 0,
     }
@@ -51,12 +52,11 @@ fn title(t: &[u8], s: &[u8], out: &mut [u16]) -> usize
 pub extern "C" fn bench_titles(s: &[u8], out: &mut [u16]) -> usize
     ensures { λ r. ⌜ r ≤ length (now (s .entry)) ⌝ }
 {
-    let table = annex_c::titles();
     let mut at = 0;
     let mut texts = 0;
     while at < s.len() {
         let n = byte(s, at);
-        texts += title(&table, part_of(s, at + 1, n), out);
+        texts += title(part_of(s, at + 1, n), out);
         at += n + 1;
     }
     texts

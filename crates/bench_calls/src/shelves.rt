@@ -15,14 +15,10 @@ struct Tally {
     shelf: Shelf,
 }
 
-fn key(w: usize) -> Asked
+pub fn key(w: usize) -> Asked
     ensures { λ r. ⌜ r .pid ≡ w ⌝ }
 {
-    Asked {
-        pid: w,
-        table_id: 0xCB,
-        extension: 7,
-    }
+    shelf_bytes::named(w, 0xCB, 7)
 }
 
 // One more, as far as there are numbers.

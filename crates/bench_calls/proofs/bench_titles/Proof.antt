@@ -9,22 +9,16 @@ use Rattle.bench_calls.proofs.bench_titles.Statement.{statement}
 use Rattle.bench_calls.proofs.bench_titles.Tie as tie
 
 abbrev Inv-loop : tie.InvT-loop
-Inv-loop s out₀ table at₀ texts₀ out at texts = ((texts ≤ at) × (texts ≤ length s)) × (length out ≡ length out₀)
+Inv-loop s out₀ at₀ texts₀ out at texts = ((texts ≤ at) × (texts ≤ length s)) × (length out ≡ length out₀)
 
 abbrev μ-loop : tie.MeasureT-loop
-μ-loop s out₀ table at₀ texts₀ out at texts = length s - at
-
-titles-requires : tie.Need-titles-requires Inv-loop μ-loop
-titles-requires c κs = search needs
+μ-loop s out₀ at₀ texts₀ out at texts = length s - at
 
 loop-holds : tie.Need-loop-holds Inv-loop μ-loop
 loop-holds c = search needs
 
 byte-requires : tie.Need-byte-requires Inv-loop μ-loop
 byte-requires c κs = search needs
-
-slice-aggregate-title : tie.Need-slice-aggregate-title Inv-loop μ-loop
-slice-aggregate-title c = search needs
 
 add-part-of : tie.Need-add-part-of Inv-loop μ-loop
 add-part-of c = search needs
@@ -33,7 +27,7 @@ part-of-requires : tie.Need-part-of-requires Inv-loop μ-loop
 part-of-requires c κs = search needs
 
 title-requires : tie.Need-title-requires Inv-loop μ-loop
-title-requires c κs = rw (c .before .part-of .ensures, length-take) (omega (arith, c .before .before .before .byte .ensures .1 .0))
+title-requires c κs = rw (c .before .part-of .ensures, length-take) (omega (arith, c .before .before .byte .ensures .1 .0))
 
 add-texts : tie.Need-add-texts Inv-loop μ-loop
 add-texts c = search needs
@@ -62,10 +56,8 @@ bench-titles-spec =
     (tie.spec
     Inv-loop
     μ-loop
-    titles-requires
     loop-holds
     byte-requires
-    slice-aggregate-title
     add-part-of
     part-of-requires
     title-requires

@@ -1,0 +1,3 @@
+// The kit's clang comes without headers.
+#pragma once
+typedef __SIZE_TYPE__ size_t;

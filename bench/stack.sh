@@ -1,0 +1,23 @@
+#!/bin/sh
+# Paints the stack of calls: bench/stack.sh [CALL..], where none is named of each. Run it from the repository's root. The kit's clang makes
+# programs for x86-64 of bench/stack/, with no C library, so the same code runs on every machine: on another than x86-64 in the kit's emulator.
+set -e
+kit=$(sh tools/kit.sh)
+before=
+[ "$(uname -m)" = x86_64 ] || before=$kit/bin/qemu-x86_64
+mkdir -p target/bench/stack
+failed=0
+built=
+for call in ${*:-judge open close status fetch deliver lent}; do
+    library=bench_calls
+    [ "$call" = lent ] && library=lent
+    case " $built " in
+    *" $library "*) ;;
+    *) rt staticlib $library >target/bench/build.log 2>&1 || { cat target/bench/build.log; exit 1; } ;;
+    esac
+    built="$built $library"
+    "$kit/bin/clang" --target=x86_64-unknown-linux-gnu -std=gnu11 -O2 -Wall -Wextra -ffreestanding -nostdinc -nostdlib -static -fuse-ld=lld \
+        -Ibench -Ibench/bare -o "target/bench/stack/$call" "bench/stack/$call.c" target/staticlib/lib$library.a
+    $before "target/bench/stack/$call" || failed=1
+done
+exit $failed

@@ -1,0 +1,84 @@
+// The lent memory of a shelf: watch records, rows of five numbers for the places, the area, a question and a reply. Watch w has the PID w
+// and the extension 7.
+#include <stddef.h>
+#include <stdint.h>
+
+enum { RECORDS = 16, PLACES = 64, PLACE = 4096, ROW = 5, QUOTA = PLACES / RECORDS, LAST = RECORDS - 1, QUESTION = 4, REPLY = 3 };
+
+typedef struct {
+    uint8_t live;
+    struct {
+        uint16_t pid;
+        uint8_t table_id;
+        uint16_t extension;
+    } key;
+    uint8_t quota, heard, version, last;
+} LentWatch;
+
+typedef uint32_t Call(LentWatch *watches, size_t records, uint32_t *places, size_t numbers, uint8_t *area, size_t size,
+                      const uint8_t *section, size_t n, const uint32_t *question, size_t asked, uint32_t *reply, size_t told);
+
+Call lent_open, lent_close, lent_status, lent_fetch, lent_deliver;
+
+typedef struct {
+    LentWatch watch[RECORDS];
+    uint32_t place[PLACES][ROW];
+    uint32_t reply[REPLY];
+} Lent;
+
+static uint8_t area[PLACES * PLACE];
+static Lent lent, expected;
+
+static LentWatch fresh_watch(unsigned w, unsigned table_id) {
+    return (LentWatch){.live = 1, .key = {w, table_id, 7}, .quota = QUOTA};
+}
+
+static void hear(LentWatch *w, unsigned version, unsigned last) {
+    w->heard = 1;
+    w->version = version;
+    w->last = last;
+}
+
+static void take(Lent *l, unsigned place, unsigned used, unsigned watch, unsigned number, unsigned length) {
+    const uint32_t row[ROW] = {used, watch, number, length, 0};
+    for (int i = 0; i < ROW; i++)
+        l->place[place][i] = row[i];
+}
+
+// All records open, each with EITs of version 3 in as many places as its quota: every place is taken.
+static void fill(void) {
+    for (unsigned w = 0; w < RECORDS; w++) {
+        lent.watch[w] = fresh_watch(w, 0xCB);
+        hear(&lent.watch[w], 3, QUOTA - 1);
+        for (unsigned k = 0; k < QUOTA; k++)
+            take(&lent, QUOTA * w + k, 1, w, k, PLACE);
+    }
+    for (int i = 0; i < REPLY; i++)
+        lent.reply[i] = 99;
+}
+
+// The last watch's places, from its place k on.
+static inline void free_from(Lent *l, unsigned k) {
+    for (; k < QUOTA; k++)
+        take(l, QUOTA * LAST + k, 0, 0, 0, 0);
+}
+
+// By their fields: what stands between them is not told.
+static inline int same_watch(const LentWatch *a, const LentWatch *b) {
+    return a->live == b->live && a->key.pid == b->key.pid && a->key.table_id == b->key.table_id && a->key.extension == b->key.extension &&
+           a->quota == b->quota && a->heard == b->heard && a->version == b->version && a->last == b->last;
+}
+
+static inline int same_numbers(const uint32_t *a, const uint32_t *b, size_t n) {
+    for (size_t i = 0; i < n; i++)
+        if (a[i] != b[i])
+            return 0;
+    return 1;
+}
+
+static inline int as_expected(void) {
+    for (int w = 0; w < RECORDS; w++)
+        if (!same_watch(&lent.watch[w], &expected.watch[w]))
+            return 0;
+    return same_numbers(lent.place[0], expected.place[0], PLACES * ROW) && same_numbers(lent.reply, expected.reply, REPLY);
+}
