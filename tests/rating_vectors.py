@@ -1,9 +1,12 @@
 """Vectors for the questions to a descriptor list alone, with the answers that the rules give.
 
 test_reading.py writes them out. Each answer is found twice, from the lists as they were put together
-and by a reader of their bytes, and the two must agree.
+and by a reader of their bytes, and the two must agree. Whether a list alone is filled exactly is told by
+the walk of bodies.py.
 """
 import random
+
+from bodies import Fault, Part, descriptors
 
 LARGEST = 2**64 - 1
 NO_ADVISORY, NO_REGION, NO_DIMENSION = "no advisory", "region absent", "dimension absent"
@@ -118,16 +121,42 @@ def read_text(s, start, end, region):
 
 # ---- the vectors
 RATING, DESCRIPTOR, TEXT = 0x51, 0x52, 0x53
+LIST_RATING, LIST_DESCRIPTOR, LIST_TEXT = 0x07, 0x08, 0x09  # judged alone: 9, and 13 for what is not there
 vectors = []  # (op, (what is asked for, dimension, start, end), bytes, answer)
 # before a list and after it stand advisories that are not the list's
 BEFORE = descriptor(0x87, [Region(1, [(0, 9)], string(b"before"))])
 AFTER = descriptor(0x87, [Region(1, [(0, 8)], string(b"after"))])
 
 
+def numbers(said):
+    """The words of an answer that is judged: 13, or its numbers alone."""
+    return "refused 13" if said in (NO_DESCRIPTOR, NO_TEXT) else " ".join(word for word in said.split() if word.isdigit())
+
+
+def filled(inner):
+    try:
+        descriptors(Part(inner, 0, len(inner)), advised=True)
+    except Fault:
+        return False
+    return True
+
+
+def ask_alone(listed, inner, regions, dimensions):
+    """All questions to a list that is judged by itself."""
+    whole = filled(inner)
+    for region in regions:
+        for dimension in dimensions:
+            vectors.append((LIST_RATING, (region, dimension, 0, 0), inner, rating_of(listed, region, dimension) if whole else "refused 9"))
+        vectors.append((LIST_TEXT, (region, 0, 0, 0), inner, numbers(text_of(listed, 0, region)) if whole else "refused 9"))
+    for k in [*range(len(listed) + 2), LARGEST]:
+        vectors.append((LIST_DESCRIPTOR, (k, 0, 0, 0), inner, numbers(descriptor_of(listed, 0, k)) if whole else "refused 9"))
+
+
 def ask(listed, regions, dimensions, before=BEFORE, after=AFTER):
     """All questions to a list."""
     inner = b"".join(descriptor(tag, inside) for tag, inside in listed)
     s, start, end = before + inner + after, len(before), len(before) + len(inner)
+    ask_alone(listed, inner, regions, dimensions)
     for region in regions:
         for dimension in dimensions:
             said = rating_of(listed, region, dimension)
@@ -208,6 +237,26 @@ for start, end in [(0, len(CUT) - 1), (0, 5), (4, 4), (5, 4), (len(CUT), len(CUT
     vectors.append((TEXT, (1, 0, start, end), CUT, NO_TEXT))
     for k in (1, LARGEST):
         vectors.append((DESCRIPTOR, (k, 0, start, end), CUT, NO_DESCRIPTOR))
+
+# ---- a list that is not filled exactly is 9, whatever is asked: cut at every byte, a byte more, an advisory that is not filled
+SOUND = [(0x86, b"xy"), (0x87, [Region(1, [(0, 5)], string())]), (0x88, b"")]
+WHOLE = b"".join(descriptor(tag, inside) for tag, inside in SOUND)
+ENDS = [0, 4, 4 + len(descriptor(*SOUND[1])), len(WHOLE)]
+for cut in range(len(WHOLE)):
+    if cut not in ENDS:
+        assert not filled(WHOLE[:cut])
+        ask_alone([], WHOLE[:cut], [1], [0])
+for broken in (
+        WHOLE + b"\x87",
+        b"\x87\0",  # no room for the region count
+        b"\x87\2\xc0\0",  # a byte left over behind no regions
+        descriptor(0x87, content([Region(1, [(0, 5)], string())]) + b"\0"),
+        descriptor(0x87, content([Region(1, [(0, 5)], string())])[:-1]),
+        descriptor(0x87, content([Region(1, [], b"\1eng\1")])),  # a text cut short
+        descriptor(0x87, content([Region(1, [], b"\0\0")])),  # a text with a byte left over
+        descriptor(0x86, b"") + descriptor(0x87, bytes([0xC2]) + Region(1, [(0, 5)]).bytes())):
+    assert not filled(broken)
+    ask_alone([], broken, [1, 2], [0])
 
 answers = {said.split()[0] + " " + said.split()[1] for question, *_, said in vectors if question == RATING}
 assert {NO_ADVISORY, NO_REGION, NO_DIMENSION, *("value %d" % v for v in range(16))} == answers, answers

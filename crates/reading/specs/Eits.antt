@@ -1,16 +1,22 @@
 -- SCOPE 2.4, 3.3 and 6.2: the fields of an EIT and of its event i, and what is asked of that event: 1 to 9, then 13.
 use Prim.Native.Nat.{ℕ}
+use mathlib.Core.Bool.{Bool}
 use mathlib.Core.Option.{Option, none, some}
 use mathlib.Core.List.{List}
+use lib.ListN.{length}
+use Rattle.logic.specs.Choices.{pick}
 use Rattle.refusal.specs.Numbers.{numberOf}
 use Rattle.refusal.specs.Outcomes.{Outcome, refused, result, after}
 use Rattle.kind.specs.Kinds.{limitsOf, onlyOf}
 use Rattle.section.specs.Sections.{sectionBy}
 use Rattle.kind.specs.declared.Kind.the-variants.{Eit}
-use Rattle.rating.specs.Ratings.{Rated, ratedOf, Descriptor, Place}
+use Rattle.format.specs.Formats.{walksAll}
+use Rattle.descriptor.specs.Descriptors.{contentAdvisory, descriptors as descriptorList}
+use Rattle.rating.specs.Ratings.{Rated, ratedOf, ratingIn, Descriptor, descriptorIn, Place, textIn}
 use Rattle.eit.specs.declared.table.Table.{Table}
 use Rattle.eit.specs.declared.event.Event.{Event}
 use Rattle.eit.specs.Fields.{fieldsAt, eventAt}
+use Rattle.eit.specs.Given.{stands}
 use Rattle.eit.specs.Questions.{ratingAt, descriptorAt, advisoryTextAt}
 use Rattle.entry.specs.declared.Entry.the-variants as entries
 use Rattle.entry.specs.Entries.{spotOf}
@@ -69,3 +75,19 @@ textOutcome (texts.Is p) = result (record { start = p .start; size = p .length }
 
 unfoldable pub advisoryTextOf : List ℕ → ℕ → ℕ → Outcome Place
 advisoryTextOf s i region = after (spotOf entries.Event s i) (λ a. orNone (advisoryTextAt s a region))
+
+-- ---- the same of an event's descriptor list by itself: 9 where it is not filled exactly, so that a broken list is never "absent"
+abbrev pub filled : List ℕ → Bool
+filled l = stands (walksAll (descriptorList contentAdvisory) l (length l) 0)
+
+unfoldable pub ifFilled : {A : Type 0} → List ℕ → Outcome A → Outcome A
+ifFilled l o = pick (filled l) o (refused 9)
+
+abbrev pub listRating : List ℕ → ℕ → ℕ → Outcome Rated
+listRating l region dimension = ifFilled l (result (ratingIn l region dimension (length l) 0))
+
+abbrev pub listDescriptor : List ℕ → ℕ → Outcome Descriptor
+listDescriptor l k = ifFilled l (orNone (descriptorIn l (length l) k 0))
+
+abbrev pub listText : List ℕ → ℕ → Outcome Place
+listText l region = ifFilled l (orNone (textIn l region (length l) 0))

@@ -1,4 +1,7 @@
-// The event information table.
+// The event information table: a section's fields and events, and what is asked of an event, by its section or by its list alone.
+use bytes_at::Walk;
+use descriptor::CONTENT_ADVISORY;
+use descriptor::whole_descriptors;
 use eit::advisory_text_at;
 use eit::descriptor_at;
 use eit::event_at;
@@ -10,13 +13,16 @@ use entry::spot_of;
 use kind::Kind;
 use rating::SoughtDescriptor;
 use rating::SoughtText;
+use rating::advisory_text_in;
+use rating::descriptor_in;
+use rating::rating_in;
 use refusal::Refusal;
 use section::Head;
 use section::inner::body_start;
 use section::judge_kind;
 ghost use mathlib.Core.Path.{_≡_};
 ghost use Rattle.rating.specs.Ratings.{soughtDescriptor, soughtText};
-ghost use Rattle.reading.specs.Eits.{fieldsOutcome, fieldsOf, entryOutcome, entryOf, ratingOutcome, ratingOf, orNone, descriptorOutcome, descriptorOf, textOutcome, advisoryTextOf};
+ghost use Rattle.reading.specs.Eits.{fieldsOutcome, fieldsOf, entryOutcome, entryOf, ratingOutcome, ratingOf, orNone, descriptorOutcome, descriptorOf, textOutcome, advisoryTextOf, filled, listRating, listDescriptor, listText};
 pub use eit::Event;
 pub use eit::Table;
 pub use eit::Title;
@@ -129,4 +135,44 @@ pub fn advisory_text(s: &[u8], i: usize, region: usize) -> TextAnswer
         Spot::Refused(k) => TextAnswer::Refused(k),
         Spot::At(a) => text_answer(advisory_text_at(s, a, region)),
     }
+}
+
+// Whether a list by itself is filled exactly, its advisories too.
+fn is_filled(list: &[u8]) -> bool
+    ensures { λ r. ⌜ r ≡ filled (now (list .entry)) ⌝ }
+{
+    match whole_descriptors(list, CONTENT_ADVISORY, list.len(), 0) {
+        Walk::To(_e) => true,
+        Walk::Bad(_x) => false,
+    }
+}
+
+// The rating by a list that an event's row points to: the list is judged and the section is not, so that many questions cost one judging.
+pub fn list_rating(list: &[u8], region: usize, dimension: usize) -> RatingAnswer
+    ensures { λ r. ⌜ ratingOutcome r ≡ listRating (now (list .entry)) region dimension ⌝ }
+{
+    if !is_filled(list) {
+        return RatingAnswer::Refused(Refusal::Body);
+    }
+    RatingAnswer::Is(rating_in(list, region, dimension, list.len(), 0))
+}
+
+// Descriptor k of such a list. Its part is one of the list.
+pub fn list_descriptor(list: &[u8], k: usize) -> DescriptorAnswer
+    ensures { λ r. ⌜ descriptorOutcome r ≡ listDescriptor (now (list .entry)) k ⌝ }
+{
+    if !is_filled(list) {
+        return DescriptorAnswer::Refused(Refusal::Body);
+    }
+    descriptor_answer(descriptor_in(list, list.len(), 0, k))
+}
+
+// The text of such a list's advisory for a region. Its part is one of the list.
+pub fn list_text(list: &[u8], region: usize) -> TextAnswer
+    ensures { λ r. ⌜ textOutcome r ≡ listText (now (list .entry)) region ⌝ }
+{
+    if !is_filled(list) {
+        return TextAnswer::Refused(Refusal::Body);
+    }
+    text_answer(advisory_text_in(list, region, list.len(), 0))
 }

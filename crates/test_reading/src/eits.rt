@@ -54,15 +54,15 @@ fn event(s: &[u8], i: usize) {
     }
 }
 
-fn rating(s: &[u8], i: usize, region: usize, dimension: usize) {
-    match eits::rating(s, i, region, dimension) {
+fn show_rating(said: RatingAnswer) {
+    match said {
         RatingAnswer::Refused(k) => refused(k),
         RatingAnswer::Is(r) => show::rating(r),
     }
 }
 
-fn descriptor(s: &[u8], i: usize, k: usize) {
-    match eits::descriptor(s, i, k) {
+fn show_descriptor(said: DescriptorAnswer) {
+    match said {
         DescriptorAnswer::Refused(r) => refused(r),
         DescriptorAnswer::Is(tag, p) => {
             number(tag);
@@ -71,8 +71,8 @@ fn descriptor(s: &[u8], i: usize, k: usize) {
     }
 }
 
-fn advisory_text(s: &[u8], i: usize, region: usize) {
-    match eits::advisory_text(s, i, region) {
+fn show_text(said: TextAnswer) {
+    match said {
         TextAnswer::Refused(k) => refused(k),
         TextAnswer::Is(p) => part(p),
     }
@@ -83,9 +83,12 @@ pub fn answer(v: Vector, s: &[u8]) {
         1 => fields(s),
         2 => event(s, v.a),
         3 => stored::answer(v, s),
-        4 => rating(s, v.a, v.b, v.c),
-        5 => descriptor(s, v.a, v.b),
-        _ => advisory_text(s, v.a, v.b),
+        4 => show_rating(eits::rating(s, v.a, v.b, v.c)),
+        5 => show_descriptor(eits::descriptor(s, v.a, v.b)),
+        6 => show_text(eits::advisory_text(s, v.a, v.b)),
+        7 => show_rating(eits::list_rating(s, v.a, v.b)),
+        8 => show_descriptor(eits::list_descriptor(s, v.a)),
+        _ => show_text(eits::list_text(s, v.a)),
     }
 }
 

@@ -1,0 +1,29 @@
+-- `list_text` meets its contract: 9, then what the list says.
+use mathlib.Core.Path.{_∙_, ap, sym}
+use borrow.Author.Needs.{needs}
+use borrow.Author.Tests.{not-false, not-true}
+use Rattle.reading.specs.Eits.{ifFilled, orNone}
+use Rattle.reading.proofs.eits.list_text.Statement.{statement}
+use Rattle.reading.proofs.eits.list_text.Tie as tie
+
+is-filled-requires : tie.Need-is-filled-requires
+is-filled-requires c κs = search needs
+
+returns : tie.Need-returns
+unfolding ifFilled
+returns c = rw (sym (c .before .is-filled .ensures) ∙ not-true _ (c .if1 .taken))
+
+advisory-text-in-requires : tie.Need-advisory-text-in-requires
+advisory-text-in-requires c κs = search needs
+
+text-answer-requires : tie.Need-text-answer-requires
+text-answer-requires c κs = search needs
+
+returns-2 : tie.Need-returns-2
+unfolding ifFilled
+returns-2 c = rw (sym (c .before .before .before .is-filled .ensures) ∙ not-false _ (c .before .before .if1 .left)) (c .text-answer .ensures ∙ ap orNone (c .before .advisory-text-in .ensures))
+
+pub list-text-spec : {M : Type 1} → statement M
+list-text-spec =
+    tie.close
+    (tie.spec is-filled-requires returns advisory-text-in-requires text-answer-requires returns-2)
