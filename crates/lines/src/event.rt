@@ -13,7 +13,6 @@ ghost use mathlib.Core.Path.{_≡_};
 ghost use mathlib.Core.List.{_++_};
 ghost use Prim.Native.Nat.{_≤_};
 ghost use lib.ListN.{length};
-ghost use Rattle.text.specs.Inner.{Tables};
 ghost use Rattle.eit.specs.Fields.{countAt, firstAt, eventAt};
 ghost use Rattle.eit.specs.Inner.{Events};
 ghost use Rattle.shown.specs.Ascii.{ascii};
@@ -31,74 +30,56 @@ fn put_times(out: &mut [u8], n: usize, e: Event) -> usize
 }
 
 // The title, and the line's end.
-fn put_rest(
-    titles: &[u8],
-    descriptions: &[u8],
-    s: &[u8],
-    t: Title,
-    units: &mut [u16],
-    out: &mut [u8],
-    n: usize,
-) -> usize
-    requires { ⌜ Tables (now titles) (now descriptions) × (Placed (length (now s)) t × (length (now units) ≡ 2040)) ⌝ }
-    ensures { λ r. ⌜ Put (ascii " title " ++ (titleShown (now (s .entry)) t ++ ascii "\n")) (now (out .entry)) n r (now (out .exit)) ⌝ }
+fn put_rest(s: &[u8], t: Title, units: &mut [u16; 2040], out: &mut [u8], n: usize) -> usize
+    requires { ⌜ Placed (length (now s)) t × (length (now units) ≡ 2040) ⌝ }
+    ensures puts { λ r. ⌜ Put (ascii " title " ++ (titleShown (now (s .entry)) t ++ ascii "\n")) (now (out .entry)) n r (now (out .exit)) ⌝ }
+    ensures keeps { λ _. ⌜ length (now (units .exit)) ≡ length (now (units .entry)) ⌝ }
 {
     let start = put_all(out, n, b" title ");
-    let end = put_title(titles, descriptions, s, t, units, out, start);
+    let end = put_title(s, t, units, out, start);
     put_all(out, end, b"\n")
 }
 
-fn put_event(
-    titles: &[u8],
-    descriptions: &[u8],
-    s: &[u8],
-    a: usize,
-    units: &mut [u16],
-    out: &mut [u8],
-    n: usize,
-) -> usize
-    requires { ⌜ Tables (now titles) (now descriptions) × ((a ≤ length (now s)) × (Placed (length (now s)) (eventAt (now s) a .title) × (length (now units) ≡ 2040))) ⌝ }
-    ensures { λ r. ⌜ Put (eventLine (now (s .entry)) a) (now (out .entry)) n r (now (out .exit)) ⌝ }
+fn put_event(s: &[u8], a: usize, units: &mut [u16; 2040], out: &mut [u8], n: usize) -> usize
+    requires { ⌜ (a ≤ length (now s)) × (Placed (length (now s)) (eventAt (now s) a .title) × (length (now units) ≡ 2040)) ⌝ }
+    ensures puts { λ r. ⌜ Put (eventLine (now (s .entry)) a) (now (out .entry)) n r (now (out .exit)) ⌝ }
+    ensures keeps { λ _. ⌜ length (now (units .exit)) ≡ length (now (units .entry)) ⌝ }
 {
     let e = event_at(s, a);
     let t = e.title;
     let m = put_times(out, n, e);
-    put_rest(titles, descriptions, s, t, units, out, m)
+    put_rest(s, t, units, out, m)
 }
 
 fn put_events(
-    titles: &[u8],
-    descriptions: &[u8],
     s: &[u8],
     k: usize,
     from: usize,
-    units: &mut [u16],
+    units: &mut [u16; 2040],
     out: &mut [u8],
     n: usize,
 ) -> usize
-    requires { ⌜ Tables (now titles) (now descriptions) × (Events (now s) k from × (length (now units) ≡ 2040)) ⌝ }
+    requires { ⌜ Events (now s) k from × (length (now units) ≡ 2040) ⌝ }
     ensures { λ r. ⌜ Put (eventLines (now (s .entry)) k from) (now (out .entry)) n r (now (out .exit)) ⌝ }
 {
     let mut m = least(out.len(), n);
     let mut a = from;
     let mut left = k;
     while 0 < left {
-        m = put_event(titles, descriptions, s, a, units, out, m);
+        m = put_event(s, a, units, out, m);
         a = event_end(s, a);
         left -= 1;
     }
     m
 }
 
-// The tables and the units are there once for all titles.
+// The units are there once for all titles.
 fn list_events(s: &[u8], k: usize, from: usize, out: &mut [u8], n: usize) -> usize
     requires { ⌜ Events (now s) k from ⌝ }
     ensures { λ r. ⌜ Put (eventLines (now (s .entry)) k from) (now (out .entry)) n r (now (out .exit)) ⌝ }
 {
-    let titles = annex_c::titles();
-    let descriptions = annex_c::descriptions();
     let mut units = [0u16; 2040];
-    put_events(&titles, &descriptions, s, k, from, &mut units, out, n)
+    put_events(s, k, from, &mut units, out, n)
 }
 
 // The count of events, and their lines, where the body begins at `at`.

@@ -1,15 +1,25 @@
 -- What the inner functions of a segment promise: a find, and the pair's outcome as one number and one array.
 use mathlib.Core.Path.{_≡_}
-use Prim.Native.Nat.{ℕ, _+_, _*_, _<_, _≤_}
+use Prim.Native.Nat.{ℕ, _+_, _*_, _-_, _/_, _%_, _^_, _<_, _≤_}
 use mathlib.Core.List.{List}
-use lib.ListN.{length, drop}
+use lib.ListN.{length, getD, drop}
 use lib.Seq.{sets}
 use Rattle.annex_c.specs.Codes.{Reading, symbol, early}
+use Rattle.annex_c.specs.Tree.{tree, walk}
 use Rattle.segment.specs.Bits.{bits}
 use Rattle.segment.specs.Text.{Text, done, refused, unit, units}
 use Rattle.segment.specs.Segment.{codedText, rawText}
 use Rattle.segment.specs.declared.ReadSymbol.{ReadSymbol}
 use Rattle.segment.specs.declared.ReadSymbol.the-variants.{Symbol, Early}
+
+-- w is the eight bits from `at` on, with 0 for each past the end
+pub record Window (s : List ℕ) (at w : ℕ) : Type 0 where
+  pub bit : (j : ℕ) → j < 8 → w / 2 ^ (7 - j) % 2 ≡ getD (bits s) (at + j) 0
+  pub small : w < 256
+
+-- the walk from node n on
+abbrev pub onFrom : List ℕ → ℕ → ℕ → List ℕ → Reading
+onFrom t n p bs = walk (tree t p) n bs
 
 -- after the prior symbol p the bits of s from `at` on begin with the symbol u, and the bit after it is `next`
 pub record SymbolAt (read : ℕ → List ℕ → Reading) (s : List ℕ) (at p u next : ℕ) : Type 0 where

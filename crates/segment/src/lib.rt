@@ -1,4 +1,4 @@
-// One compressed segment of annex C, for any decode table that is lent. The reading of a coded symbol and of a raw character are
+// One compressed segment of annex C, of a title or of a description. The reading of a coded symbol and of a raw character are
 // two functions that call each other along the bits. They answer a number and store into an array of fixed size: an enum as the
 // answer, or a lent slice, would keep the compiler from making jumps of the calls.
 //
@@ -7,15 +7,20 @@ pub mod inner;
 
 use crate::inner::put_unit;
 use bytes_at::byte;
+use steps::step_of;
+use trees::byte_of;
+use trees::root_of;
 ghost use mathlib.Core.Path.{_≡_};
 ghost use Prim.Native.Nat.{_+_, _*_, _<_, _≤_};
 ghost use lib.ListN.{length, getD, take, drop};
 ghost use lib.Seq.{sets};
-ghost use Rattle.annex_c.specs.Tree.{root, walked};
+ghost use Rattle.annex_c.specs.Tree.{tree, walked};
+ghost use Rattle.trees.specs.Which.{tableOf};
+ghost use Rattle.steps.specs.Reaches.{Stepping};
 ghost use Rattle.segment.specs.Bits.{bits, number};
 ghost use Rattle.segment.specs.Text.{judged, written};
 ghost use Rattle.segment.specs.Segment.{endedText, cutText, segmentText};
-ghost use Rattle.segment.specs.Inner.{Finds, answer, CodedAt, RawAt, Room};
+ghost use Rattle.segment.specs.Inner.{Window, onFrom, Finds, answer, Outcome, CodedAt, RawAt, Room};
 
 // What a segment holds: so many units, or the refusal's number.
 pub enum Judged {
@@ -39,39 +44,32 @@ fn bit_at(s: &[u8], i: usize) -> usize
     (byte(s, i / 8) >> (7 - i % 8)) % 2
 }
 
+// The eight bits from `at` on, with 0 for each past the end.
+fn window(s: &[u8], at: usize) -> usize
+    ensures { λ r. ⌜ Window (now (s .entry)) at r ⌝ }
+{
+    ((256 * byte(s, at / 8) + byte(s, at / 8 + 1)) >> (8 - at % 8)) % 256
+}
+
 // The number that the eight bits from `at` on are.
 fn eight_at(s: &[u8], at: usize) -> u8
-    requires { ⌜ (length (now s) ≤ 255) × (at + 8 ≤ 8 * length (now s)) ⌝ }
+    requires { ⌜ at + 8 ≤ 8 * length (now s) ⌝ }
     ensures { λ r. ⌜ r ≡ number 0 (take 8 (drop at (bits (now (s .entry))))) ⌝ }
 {
-    let mut v: usize = 0;
-    let mut i = 0;
-    while i < 8 {
-        v = 2 * v + bit_at(s, at + i);
-        i += 1;
-    }
-    (v % 256) as u8
+    window(s, at) as u8
 }
 
-// Where the tree of a prior symbol begins.
-fn root_of(t: &[u8], prior: u8) -> usize
-    ensures { λ r. ⌜ (r ≡ root (now (t .entry)) prior) × (r < 65536) ⌝ }
-{
-    let p = 2 * (prior as usize);
-    256 * byte(t, p) + byte(t, p + 1)
-}
-
-// One coded symbol, from bit `at` on.
-fn symbol_at(t: &[u8], s: &[u8], at: usize, prior: u8) -> ReadSymbol
-    requires { ⌜ length (now s) ≤ 255 ⌝ }
-    ensures { λ r. ⌜ Finds (walked (now (t .entry))) (now (s .entry)) at prior r ⌝ }
+// What is left of a coded symbol: from the node `first` of its tree on, at bit `from`.
+fn rest_at(titles: bool, s: &[u8], from: usize, prior: u8, first: usize) -> ReadSymbol
+    requires { ⌜ (length (now s) ≤ 255) × (first < 128) ⌝ }
+    ensures { λ r. ⌜ Finds (onFrom (tableOf titles) first) (now (s .entry)) from prior r ⌝ }
 {
     let total = 8 * s.len();
-    let base = root_of(t, prior);
-    let mut i = at;
-    let mut node: usize = 0;
+    let base = root_of(titles, prior);
+    let mut i = from;
+    let mut node = first;
     while i < total {
-        let v = byte(t, base + (2 * node + bit_at(s, i)));
+        let v = byte_of(titles, base + (2 * node + bit_at(s, i)));
         i += 1;
         if 128 <= v {
             return ReadSymbol::Symbol((v - 128) as u8, i);
@@ -79,6 +77,31 @@ fn symbol_at(t: &[u8], s: &[u8], at: usize, prior: u8) -> ReadSymbol
         node = v;
     }
     ReadSymbol::Early
+}
+
+// One coded symbol, from bit `at` on: where the step e leads, and the rest of a longer code by the tree.
+fn step_at(titles: bool, s: &[u8], at: usize, prior: u8, e: usize) -> ReadSymbol
+    requires { ⌜ (length (now s) ≤ 255) × (at ≤ 8 * length (now s)) × Stepping (tree (tableOf titles) prior) (bits (now s)) at e ⌝ }
+    ensures { λ r. ⌜ Finds (walked (tableOf titles)) (now (s .entry)) at prior r ⌝ }
+{
+    let next = at + e % 16;
+    if e < 2048 {
+        return rest_at(titles, s, next, prior, e / 16);
+    }
+    if 8 * s.len() < next {
+        return ReadSymbol::Early;
+    }
+    let symbol = (e / 16 % 128) as u8;
+    ReadSymbol::Symbol(symbol, next)
+}
+
+// One coded symbol, from bit `at` on.
+fn symbol_at(titles: bool, s: &[u8], at: usize, prior: u8) -> ReadSymbol
+    requires { ⌜ (length (now s) ≤ 255) × (at ≤ 8 * length (now s)) ⌝ }
+    ensures { λ r. ⌜ Finds (walked (tableOf titles)) (now (s .entry)) at prior r ⌝ }
+{
+    let e = step_of(titles, 16 * (prior as usize) + window(s, at) / 16);
+    step_at(titles, s, at, prior, e)
 }
 
 // A symbol as a unit.
@@ -103,12 +126,12 @@ fn cut(left: usize, n: usize) -> usize
 }
 
 // A coded symbol at bit `at`, and what follows it.
-fn coded(t: &&[u8], s: &&[u8], at: usize, prior: u8, out: &mut [u16; 2040], n: usize) -> usize
+fn coded(titles: bool, s: &&[u8], at: usize, prior: u8, out: &mut [u16; 2040], n: usize) -> usize
     requires { ⌜ Room (now (now s)) at n ⌝ }
-    ensures { λ r. ⌜ CodedAt (walked (now (now (t .entry)))) (now (now (s .entry))) at prior n (now (out .entry)) r (now (out .exit)) ⌝ }
+    ensures { λ r. ⌜ CodedAt (walked (tableOf titles)) (now (now (s .entry))) at prior n (now (out .entry)) r (now (out .exit)) ⌝ }
 {
     let total = 8 * (*s).len();
-    let f = symbol_at(*t, *s, at, prior);
+    let f = symbol_at(titles, *s, at, prior);
     let ReadSymbol::Symbol(u, next) = f else {
         return cut(total - at, n);
     };
@@ -116,16 +139,16 @@ fn coded(t: &&[u8], s: &&[u8], at: usize, prior: u8, out: &mut [u16; 2040], n: u
         return ended(total - next, n);
     }
     if u == 27 {
-        return raw(t, s, next, total - at, out, n);
+        return raw(titles, s, next, total - at, out, n);
     }
     out[n] = wide(u);
-    coded(t, s, next, u, out, n + 1)
+    coded(titles, s, next, u, out, n + 1)
 }
 
 // A raw character at bit `at`, of a symbol that began with `left` bits left, and what follows it.
-fn raw(t: &&[u8], s: &&[u8], at: usize, left: usize, out: &mut [u16; 2040], n: usize) -> usize
+fn raw(titles: bool, s: &&[u8], at: usize, left: usize, out: &mut [u16; 2040], n: usize) -> usize
     requires { ⌜ Room (now (now s)) at n ⌝ }
-    ensures { λ r. ⌜ RawAt (walked (now (now (t .entry)))) (now (now (s .entry))) at left n (now (out .entry)) r (now (out .exit)) ⌝ }
+    ensures { λ r. ⌜ RawAt (walked (tableOf titles)) (now (now (s .entry))) at left n (now (out .entry)) r (now (out .exit)) ⌝ }
 {
     if 8 * (*s).len() < at + 8 {
         return cut(left, n);
@@ -135,7 +158,7 @@ fn raw(t: &&[u8], s: &&[u8], at: usize, left: usize, out: &mut [u16; 2040], n: u
         return BROKEN;
     }
     out[n] = wide(c);
-    coded(t, s, at + 8, c, out, n + 1)
+    coded(titles, s, at + 8, c, out, n + 1)
 }
 
 // The first k units of o, from place n of the output on.
@@ -150,13 +173,21 @@ fn copy(o: &[u16], k: usize, out: &mut [u16], n: usize)
     }
 }
 
-// How many units the segment s holds by the table t, or its refusal.
-pub fn judge(t: &[u8], s: &[u8]) -> Judged
+// The units of the segment s, from place n of the array on, and the place after them; or 4096 and the refusal's number.
+pub fn read(titles: bool, s: &[u8], out: &mut [u16; 2040], n: usize) -> usize
+    requires { ⌜ Room (now s) 0 n ⌝ }
+    ensures { λ r. ⌜ Outcome (segmentText (walked (tableOf titles)) (now (s .entry))) n (now (out .entry)) r (now (out .exit)) ⌝ }
+{
+    coded(titles, &s, 0, 0, out, n)
+}
+
+// How many units the segment s holds, or its refusal.
+pub fn judge(titles: bool, s: &[u8]) -> Judged
     requires { ⌜ length (now s) ≤ 255 ⌝ }
-    ensures { λ r. ⌜ r ≡ judged 0 (segmentText (walked (now (t .entry))) (now (s .entry))) ⌝ }
+    ensures { λ r. ⌜ r ≡ judged 0 (segmentText (walked (tableOf titles)) (now (s .entry))) ⌝ }
 {
     let mut o = [0u16; 2040];
-    let r = coded(&t, &s, 0, 0, &mut o, 0);
+    let r = coded(titles, &s, 0, 0, &mut o, 0);
     if r < 4096 {
         return Judged::Units(r);
     }
@@ -164,13 +195,13 @@ pub fn judge(t: &[u8], s: &[u8]) -> Judged
 }
 
 // The same, with the units written from place n of the output on, those that have room. A refusal writes none.
-pub fn write(t: &[u8], s: &[u8], out: &mut [u16], n: usize) -> Judged
+pub fn write(titles: bool, s: &[u8], out: &mut [u16], n: usize) -> Judged
     requires { ⌜ length (now s) ≤ 255 ⌝ }
-    ensures judges { λ r. ⌜ r ≡ judged 0 (segmentText (walked (now (t .entry))) (now (s .entry))) ⌝ }
-    ensures writes { λ _. ⌜ now (out .exit) ≡ written (now (out .entry)) n (segmentText (walked (now (t .entry))) (now (s .entry))) ⌝ }
+    ensures judges { λ r. ⌜ r ≡ judged 0 (segmentText (walked (tableOf titles)) (now (s .entry))) ⌝ }
+    ensures writes { λ _. ⌜ now (out .exit) ≡ written (now (out .entry)) n (segmentText (walked (tableOf titles)) (now (s .entry))) ⌝ }
 {
     let mut o = [0u16; 2040];
-    let r = coded(&t, &s, 0, 0, &mut o, 0);
+    let r = coded(titles, &s, 0, 0, &mut o, 0);
     if r < 4096 {
         copy(&o, r, out, n);
         return Judged::Units(r);

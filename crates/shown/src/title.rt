@@ -7,7 +7,7 @@ use crate::put::put_field;
 use eit::Title;
 use part::Part;
 use text::Answer;
-use text::inner::string_text_by;
+use text::inner::string_read;
 ghost use mathlib.Core.Path.{_≡_};
 ghost use mathlib.Core.List.{[], _∷_};
 ghost use Prim.Native.Nat.{_/_, _%_, _≤_, _<_};
@@ -15,7 +15,6 @@ ghost use lib.ListN.{length};
 ghost use Rattle.part.specs.Parts.{endOf};
 ghost use Rattle.refusal.specs.Outcomes.{result};
 ghost use Rattle.text.specs.Strings.{stringUnits};
-ghost use Rattle.text.specs.Inner.{Tables};
 ghost use Rattle.shown.specs.Ascii.{hexDigit};
 ghost use Rattle.shown.specs.Titles.{escaped, plain, shown, allShown, textShown, titleShown};
 ghost use Rattle.shown.specs.Output.{Put};
@@ -112,39 +111,25 @@ fn put_answer(r: Answer, units: &[u16], out: &mut [u8], n: usize) -> usize
 }
 
 // The text of a field's first string. The units have room for every text that a field of 255 bytes can hold.
-fn put_text(
-    titles: &[u8],
-    descriptions: &[u8],
-    s: &[u8],
-    p: Part,
-    units: &mut [u16],
-    out: &mut [u8],
-    n: usize,
-) -> usize
-    requires { ⌜ Tables (now titles) (now descriptions) × ((endOf p ≤ length (now s)) × ((p .length < 256) × (length (now units) ≡ 2040))) ⌝ }
-    ensures { λ r. ⌜ Put (textShown (stringUnits (now (s .entry)) (endOf p) (p .start) 0)) (now (out .entry)) n r (now (out .exit)) ⌝ }
+fn put_text(s: &[u8], p: Part, units: &mut [u16; 2040], out: &mut [u8], n: usize) -> usize
+    requires { ⌜ (endOf p ≤ length (now s)) × ((p .length < 256) × (length (now units) ≡ 2040)) ⌝ }
+    ensures puts { λ r. ⌜ Put (textShown (stringUnits (now (s .entry)) (endOf p) (p .start) 0)) (now (out .entry)) n r (now (out .exit)) ⌝ }
+    ensures keeps { λ _. ⌜ length (now (units .exit)) ≡ length (now (units .entry)) ⌝ }
 {
     let at = p.start;
     let end = at + p.length;
-    let r = string_text_by(titles, descriptions, s, end, at, 0, units);
+    let r = string_read(s, end, at, 0, units);
     put_answer(r, units, out, n)
 }
 
-pub fn put_title(
-    titles: &[u8],
-    descriptions: &[u8],
-    s: &[u8],
-    t: Title,
-    units: &mut [u16],
-    out: &mut [u8],
-    n: usize,
-) -> usize
-    requires { ⌜ Tables (now titles) (now descriptions) × (Placed (length (now s)) t × (length (now units) ≡ 2040)) ⌝ }
-    ensures { λ r. ⌜ Put (titleShown (now (s .entry)) t) (now (out .entry)) n r (now (out .exit)) ⌝ }
+pub fn put_title(s: &[u8], t: Title, units: &mut [u16; 2040], out: &mut [u8], n: usize) -> usize
+    requires { ⌜ Placed (length (now s)) t × (length (now units) ≡ 2040) ⌝ }
+    ensures puts { λ r. ⌜ Put (titleShown (now (s .entry)) t) (now (out .entry)) n r (now (out .exit)) ⌝ }
+    ensures keeps { λ _. ⌜ length (now (units .exit)) ≡ length (now (units .entry)) ⌝ }
 {
     match t {
         Title::None => put_all(out, n, b"none"),
         Title::NoStrings => put_all(out, n, b"empty"),
-        Title::Text(p) => put_text(titles, descriptions, s, p, units, out, n),
+        Title::Text(p) => put_text(s, p, units, out, n),
     }
 }

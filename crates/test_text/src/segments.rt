@@ -26,29 +26,27 @@ fn with_edges(k: usize) -> usize {
     if k < 4096 { k + 2 } else { k }
 }
 
-fn decode(t: &[u8], s: &[u8])
+fn decode(titles: bool, s: &[u8])
     requires { ⌜ length (now s) ≤ 255 ⌝ }
 {
     let mut out = [65535u16; 2048];
-    tell(segment::judge(t, s));
-    let k = tell(segment::write(t, s, &mut out, 3));
+    tell(segment::judge(titles, s));
+    let k = tell(segment::write(titles, s, &mut out, 3));
     units(&out, 2, with_edges(k));
 }
 
-fn short(t: &[u8], s: &[u8]) {
+fn short(titles: bool, s: &[u8]) {
     if s.len() <= 255 {
-        decode(t, s);
+        decode(titles, s);
     } else {
         say(b" no segment");
     }
 }
 
 pub fn titled(s: &[u8]) {
-    let t = annex_c::titles();
-    short(&t, s);
+    short(true, s);
 }
 
 pub fn described(s: &[u8]) {
-    let t = annex_c::descriptions();
-    short(&t, s);
+    short(false, s);
 }

@@ -13,6 +13,7 @@ use Rattle.bytes_at.specs.Fields.{byteAt}
 use Rattle.bytes_at.specs.Walks.{fieldsTo, then, many}
 use Rattle.bytes_at.proofs.WalkLaws.{to-is, then-inv, skipped}
 use Rattle.refusal.specs.Outcomes.{Outcome, refused, result, after}
+use Rattle.refusal.proofs.OutcomeLaws.{same-result, not-both}
 use Rattle.annex_c.specs.Codes.{Reading}
 use Rattle.format.specs.Formats.{walks, last, times}
 use Rattle.format.proofs.FieldLaws.{fields-end}
@@ -70,7 +71,7 @@ way-few Titles s = compressed-few _ s
 way-few Descriptions s = compressed-few _ s
 way-few Unread s = omega arith
 
-segment-few : (s : List ℕ) (at : ℕ) → Few (8 * byteAt s (at + 2)) (segmentUnits s at)
+pub segment-few : (s : List ℕ) (at : ℕ) → Few (8 * byteAt s (at + 2)) (segmentUnits s at)
 unfolding segmentUnits
 segment-few s at =
     let bytes = take (byteAt s (at + 2)) (drop (at + 3) s) in
@@ -84,7 +85,7 @@ joined-few m n (refused k) y f g = f
 joined-few m n (result us) (refused k) f g = g
 joined-few m n (result us) (result vs) f g = omega (arith, length-append us vs, f, g)
 
-segment-end : (s : List ℕ) (end at b : ℕ) → walks segment s end at ≡ To b → (b ≡ at + 3 + byteAt s (at + 2)) × (b ≤ end)
+pub segment-end : (s : List ℕ) (end at b : ℕ) → walks segment s end at ≡ To b → (b ≡ at + 3 + byteAt s (at + 2)) × (b ≤ end)
 unfolding segment
 segment-end s end at b w =
     let h = then-inv _ _ b w in
@@ -117,6 +118,27 @@ strings-forward s end (suc k) at b w =
     let p = then-inv _ _ b w in
     let f = head-forward 24 (8 ∷ []) 4 refl last (times segment) s end at (p .0) (p .1 .0) in
     omega (arith, f, strings-forward s end k (p .0) b (p .1 .1))
+
+module _ (s : List ℕ) (end at k b : ℕ) where
+  head-after : (c : ℕ) (w : Walk) → fieldsTo (24 ∷ 8 ∷ []) c end ≡ w → standing w ≡ result b → c ≤ b
+  unfolding standing
+  head-after c (Bad x) e q = not-both 9 b q
+  head-after c (To d) e q = omega (arith, fields-end 24 (8 ∷ []) 4 refl c end d e, same-result d b q)
+
+  walk-after : (w : Walk) → many (walks string s end) k (at + 1) ≡ w → standing (then w (λ c. fieldsTo (24 ∷ 8 ∷ []) c end)) ≡ result b → at ≤ b
+  unfolding standing then
+  walk-after (Bad x) e q = not-both 9 b q
+  walk-after (To c) e q =
+      omega (arith, head-after c (fieldsTo (24 ∷ 8 ∷ []) c end) refl q, strings-forward s end k (at + 1) c e)
+
+  -- a string that is found lies behind the field's beginning
+  pub string-after : stringAt s end at k ≡ result b → at ≤ b
+  unfolding stringAt ifLt
+  string-after = by (ltb k (stringCount s end at))
+    where
+      by : (t : Bool) → pick t (standing (then (many (walks string s end) k (at + 1)) (λ c. fieldsTo (24 ∷ 8 ∷ []) c end))) (refused 13) ≡ result b → at ≤ b
+      by true q = walk-after (many (walks string s end) k (at + 1)) refl q
+      by false q = not-both 13 b q
 
 module _ (s : List ℕ) (end at k : ℕ) where
   -- behind the head of the string, if there is one

@@ -5,7 +5,7 @@ use Prim.Native.Nat.{ℕ, zero, suc, _+_, _-_, _*_, _<_, _≤_}
 use native.Mathlib.Nat.{add-zero}
 use native.Mathlib.Numerals.{sub-one}
 use native.Mathlib.Omega.{arith}
-use lib.ListN.{length, set, length-append}
+use lib.ListN.{length, length-append}
 use lib.Seq.{sets, length-sets}
 use Rattle.bytes_at.specs.declared.Walk.{Walk}
 use Rattle.bytes_at.specs.declared.Walk.the-variants.{To, Bad}
@@ -15,6 +15,7 @@ use Rattle.refusal.specs.Numbers.{numberOf}
 use Rattle.refusal.specs.Outcomes.{Outcome, refused, result, after}
 use Rattle.refusal.specs.declared.Refusal.{Refusal}
 use Rattle.refusal.proofs.OutcomeLaws.{same-result, not-both}
+use Rattle.row.proofs.RowLaws.{sets-append}
 use Rattle.format.specs.Formats.{walks}
 use Rattle.format.proofs.FieldLaws.{fields-end}
 use Rattle.strings.specs.Strings.{segment}
@@ -62,13 +63,7 @@ unfolding joined after
 joined-inv us vs (refused k) e = not-both k vs e
 joined-inv us vs (result ws) e = (ws, (refl, same-result vs (us ++ ws) (sym e)))
 
-sets-append : (l us vs : List ℕ) (n : ℕ) → sets l n (us ++ vs) ≡ sets (sets l n us) (n + length us) vs
-sets-append l [] vs n = rw add-zero
-sets-append l (u ∷ us) vs n =
-    let e : n + suc (length us) ≡ suc n + length us = omega arith in
-    rw e (sets-append (set l n u) us vs (suc n))
-
-joined-refused : (x y : Outcome (List ℕ)) (q : ℕ) → x ≡ refused q → joined x y ≡ refused q
+pub joined-refused : (x y : Outcome (List ℕ)) (q : ℕ) → x ≡ refused q → joined x y ≡ refused q
 unfolding joined after
 joined-refused x y q e = rw e
 
@@ -140,7 +135,7 @@ module _ {x : Outcome (List ℕ)} {l₀ : List ℕ} {m : ℕ} {y : Outcome (List
         let e : z ≡ refused (numberOf r) = from-refusal z (numberOf r) (rw q at (w .answers)) in
         rw q (going-refused r l′ (j ∙ joined-refused z y′ (numberOf r) e))
 
-    going-next : (us : List ℕ) (k : ℕ) → 0 < left → z ≡ result us → k ≡ length us → length us ≤ 2040 → l′ ≡ sets l n us
+    pub going-next : (us : List ℕ) (k : ℕ) → 0 < left → z ≡ result us → k ≡ length us → length us ≤ 2040 → l′ ≡ sets l n us
         → Going x l₀ m y′ l′ (left - 1) (n + k)
     going-next us k h a q b e =
         let d : y ≡ joined (result us) y′ = rw a at j in
@@ -151,7 +146,7 @@ module _ {x : Outcome (List ℕ)} {l₀ : List ℕ} {m : ℕ} {y : Outcome (List
           stores = λ vs t.
               let o = g .stores vs t in
               let w = joined-inv us (o .0) y′ (sym d ∙ o .1 .0) in
-              (w .0, (w .1 .0, rw (e, q) (sym (sets-append l us (w .0) n) ∙ ap (sets l n) (sym (w .1 .1)) ∙ o .1 .1)));
+              (w .0, (w .1 .0, rw (e, q) (sym (sets-append us (w .0) l n) ∙ ap (sets l n) (sym (w .1 .1)) ∙ o .1 .1)));
           long = ap length e ∙ length-sets l n us ∙ g .long;
         }
 

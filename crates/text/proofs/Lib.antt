@@ -7,3 +7,4 @@ pub mod ThereLaws
 pub mod ValueLaws
 pub mod Examples
 pub mod OnceLaws
+pub mod PassLaws

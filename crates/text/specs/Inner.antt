@@ -1,4 +1,4 @@
--- What the private functions are lent and promise.
+-- What the private functions promise.
 use mathlib.Core.Path.{_≡_}
 use Prim.Native.Nat.{ℕ, _≤_}
 use mathlib.Core.Bool.{Bool, true, false}
@@ -6,17 +6,11 @@ use mathlib.Core.List.{List}
 use lib.ListN.{length}
 use lib.Seq.{sets}
 use Rattle.refusal.specs.Outcomes.{Outcome, refused, result}
-use Rattle.annex_c.specs.Table1.{table1}
-use Rattle.annex_c.specs.Table2.{table2}
 use Rattle.text.specs.declared.answer.Answer.{Answer}
+use Rattle.text.specs.declared.answer.Answer.the-variants.{Value}
 use Rattle.text.specs.Answers.{numberOutcome}
 use Rattle.text.specs.Segments.{pairs}
 use Rattle.refusal.specs.Outputs.{counted}
-
--- the decode tables of annex C are lent
-pub record Tables (t d : List ℕ) : Type 0 where
-  pub titles : t ≡ table1
-  pub descriptions : d ≡ table2
 
 -- plain bytes as units: two a unit, or one
 unfoldable pub plain : Bool → List ℕ → List ℕ
@@ -39,3 +33,16 @@ pub record Wrote (x : Outcome (List ℕ)) (l : List ℕ) (n : ℕ) (r : Answer) 
 pub record WroteAll (x : Outcome (List ℕ)) (l : List ℕ) (r : Answer) (e : List ℕ) : Type 0 where
   pub answers : numberOutcome r ≡ counted x
   pub stores : (us : List ℕ) → x ≡ result us → e ≡ sets l 0 us
+
+-- a segment of the units x was read once, into an array with room for it: the answer is r, and the array is then e. What a refused
+-- one leaves there is of no use
+pub record Once (x : Outcome (List ℕ)) (l : List ℕ) (n : ℕ) (r : Answer) (e : List ℕ) : Type 0 where
+  pub answers : numberOutcome r ≡ counted x
+  pub stores : (us : List ℕ) → x ≡ result us → e ≡ sets l n us
+  pub long : length e ≡ length l
+
+-- the same of joined segments
+pub record OnceAll (x : Outcome (List ℕ)) (l : List ℕ) (r : Answer) (e : List ℕ) : Type 0 where
+  pub wrote : WroteAll x l r e
+  pub long : length e ≡ length l
+  pub few : (k : ℕ) → r ≡ Value k → k ≤ 2040

@@ -2,6 +2,7 @@
 mod answer;
 mod field;
 pub mod inner;
+mod once;
 mod segments;
 
 pub use answer::Answer;

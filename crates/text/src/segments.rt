@@ -13,10 +13,11 @@ ghost use lib.ListN.{length, getD, take};
 ghost use lib.Seq.{sets};
 ghost use Rattle.refusal.specs.Outcomes.{result};
 ghost use Rattle.annex_c.specs.Tree.{walked};
+ghost use Rattle.trees.specs.Which.{tableOf};
 ghost use Rattle.segment.specs.Segment.{segmentText};
 ghost use Rattle.text.specs.Segments.{wayOf, utf16Units, textUnits, unitsBy, segmentUnits};
 ghost use Rattle.text.specs.Strings.{joinedUnits};
-ghost use Rattle.text.specs.Inner.{Tables, plain, Wrote, WroteAll};
+ghost use Rattle.text.specs.Inner.{plain, Wrote, WroteAll};
 
 // How a segment is read.
 pub enum Way {
@@ -27,7 +28,7 @@ pub enum Way {
     Unread,
 }
 
-fn way_of(compression: usize, mode: usize) -> Way
+pub fn way_of(compression: usize, mode: usize) -> Way
     ensures { λ r. ⌜ r ≡ wayOf compression mode ⌝ }
 {
     if mode == 0 {
@@ -84,7 +85,7 @@ fn store(s: &[u8], wide: bool, k: usize, out: &mut [u16], n: usize)
 }
 
 // Bytes that are units.
-fn bytes(s: &[u8], out: &mut [u16], n: usize) -> Answer
+pub fn bytes(s: &[u8], out: &mut [u16], n: usize) -> Answer
     requires { ⌜ length (now s) ≤ 255 ⌝ }
     ensures { λ r. ⌜ Wrote (result (now (s .entry))) (now (out .entry)) n r (now (out .exit)) ⌝ }
 {
@@ -92,7 +93,7 @@ fn bytes(s: &[u8], out: &mut [u16], n: usize) -> Answer
     Answer::Value(s.len())
 }
 
-fn utf16(s: &[u8], out: &mut [u16], n: usize) -> Answer
+pub fn utf16(s: &[u8], out: &mut [u16], n: usize) -> Answer
     requires { ⌜ length (now s) ≤ 255 ⌝ }
     ensures { λ r. ⌜ Wrote (utf16Units (now (s .entry))) (now (out .entry)) n r (now (out .exit)) ⌝ }
 {
@@ -103,66 +104,44 @@ fn utf16(s: &[u8], out: &mut [u16], n: usize) -> Answer
     Answer::Value(s.len() / 2)
 }
 
-// A compressed segment, by a table.
-fn compressed(t: &[u8], s: &[u8], out: &mut [u16], n: usize) -> Answer
+// A compressed segment.
+fn compressed(titles: bool, s: &[u8], out: &mut [u16], n: usize) -> Answer
     requires { ⌜ length (now s) ≤ 255 ⌝ }
-    ensures { λ r. ⌜ Wrote (textUnits (segmentText (walked (now (t .entry))) (now (s .entry)))) (now (out .entry)) n r (now (out .exit)) ⌝ }
+    ensures { λ r. ⌜ Wrote (textUnits (segmentText (walked (tableOf titles)) (now (s .entry)))) (now (out .entry)) n r (now (out .exit)) ⌝ }
 {
-    match segment::write(t, s, out, n) {
+    match segment::write(titles, s, out, n) {
         Judged::Units(k) => Answer::Value(k),
         Judged::Refused(_) => Answer::Refused(Refusal::BrokenText),
     }
 }
 
 // One segment: its units from place n of the output on, and how many they are.
-fn one_segment(
-    titles: &[u8],
-    descriptions: &[u8],
-    way: Way,
-    s: &[u8],
-    out: &mut [u16],
-    n: usize,
-) -> Answer
-    requires { ⌜ Tables (now titles) (now descriptions) × (length (now s) ≤ 255) ⌝ }
+fn one_segment(way: Way, s: &[u8], out: &mut [u16], n: usize) -> Answer
+    requires { ⌜ length (now s) ≤ 255 ⌝ }
     ensures { λ r. ⌜ Wrote (unitsBy way (now (s .entry))) (now (out .entry)) n r (now (out .exit)) ⌝ }
 {
     match way {
         Way::Bytes => bytes(s, out, n),
         Way::Utf16 => utf16(s, out, n),
-        Way::Titles => compressed(titles, s, out, n),
-        Way::Descriptions => compressed(descriptions, s, out, n),
+        Way::Titles => compressed(true, s, out, n),
+        Way::Descriptions => compressed(false, s, out, n),
         Way::Unread => Answer::Refused(Refusal::NotAReadPair),
     }
 }
 
 // The segment whose head begins at `at`.
-fn segment_at(
-    titles: &[u8],
-    descriptions: &[u8],
-    s: &[u8],
-    at: usize,
-    out: &mut [u16],
-    n: usize,
-) -> Answer
-    requires { ⌜ Tables (now titles) (now descriptions) × (at + 3 < 2 ^ 64) ⌝ }
+fn segment_at(s: &[u8], at: usize, out: &mut [u16], n: usize) -> Answer
+    requires { ⌜ at + 3 < 2 ^ 64 ⌝ }
     ensures { λ r. ⌜ Wrote (segmentUnits (now (s .entry)) at) (now (out .entry)) n r (now (out .exit)) ⌝ }
 {
     let w = way_of(byte(s, at), byte(s, at + 1));
     let bytes = part_of(s, at + 3, byte(s, at + 2));
-    one_segment(titles, descriptions, w, bytes, out, n)
+    one_segment(w, bytes, out, n)
 }
 
 // m segments from a place on, joined, from the output's start on.
-pub fn all_segments(
-    titles: &[u8],
-    descriptions: &[u8],
-    s: &[u8],
-    end: usize,
-    m: usize,
-    from: usize,
-    out: &mut [u16],
-) -> Answer
-    requires { ⌜ Tables (now titles) (now descriptions) × (m < 256) ⌝ }
+pub fn all_segments(s: &[u8], end: usize, m: usize, from: usize, out: &mut [u16]) -> Answer
+    requires { ⌜ m < 256 ⌝ }
     ensures { λ r. ⌜ WroteAll (joinedUnits (now (s .entry)) end m from) (now (out .entry)) r (now (out .exit)) ⌝ }
 {
     let mut at = from;
@@ -173,7 +152,7 @@ pub fn all_segments(
         let Walk::To(b) = w else {
             return Answer::Refused(Refusal::Body);
         };
-        let u = segment_at(titles, descriptions, s, at, out, n);
+        let u = segment_at(s, at, out, n);
         let Answer::Value(k) = u else {
             return u;
         };

@@ -4,6 +4,7 @@ use native.Mathlib.Omega.{arith}
 use borrow.Author.Needs.{needs}
 use denote.Ref.{now}
 use lib.ListN.{length, set}
+use Rattle.trees.specs.Which.{tableOf}
 use Rattle.annex_c.specs.Tree.{walked}
 use Rattle.segment.specs.Inner.{SymbolAt, CodedAt}
 use Rattle.segment.proofs.PairLaws.{found-early, found-symbol, coded-early, coded-ended, coded-raw, coded-unit, raw-early, raw-broken, raw-unit}
@@ -24,23 +25,23 @@ use Rattle.segment.proofs.wide.Reads as wide-reads
 use Rattle.segment.proofs.+coded+raw.{statement}
 use Rattle.segment.proofs.+coded+raw.Tie.{close}
 
-abbrev μ-coded : Measures 5 coded-kinds.ps ℕ
+abbrev μ-coded : Measures 3 coded-kinds.ps ℕ
 μ-coded κs a = 8 * length (now (now (a .1 .0))) - a .1 .1 .0
 
-abbrev μ-raw : Measures 5 raw-kinds.ps ℕ
+abbrev μ-raw : Measures 3 raw-kinds.ps ℕ
 μ-raw κs a = 8 * length (now (now (a .1 .0))) - a .1 .1 .0
 
-abbrev coded-at : ℕ → In 5 coded-kinds.ps
-coded-at t = and 5 coded-kinds.ps (is 5 coded-kinds.ps μ-coded t) coded.Pre
+abbrev coded-at : ℕ → In 3 coded-kinds.ps
+coded-at t = and 3 coded-kinds.ps (is 3 coded-kinds.ps μ-coded t) coded.Pre
 
-abbrev coded-below : ℕ → In 5 coded-kinds.ps
-coded-below t = and 5 coded-kinds.ps (falls 5 coded-kinds.ps _<_ μ-coded t) coded.Pre
+abbrev coded-below : ℕ → In 3 coded-kinds.ps
+coded-below t = and 3 coded-kinds.ps (falls 3 coded-kinds.ps _<_ μ-coded t) coded.Pre
 
-abbrev raw-at : ℕ → In 5 raw-kinds.ps
-raw-at t = and 5 raw-kinds.ps (is 5 raw-kinds.ps μ-raw t) raw.Pre
+abbrev raw-at : ℕ → In 3 raw-kinds.ps
+raw-at t = and 3 raw-kinds.ps (is 3 raw-kinds.ps μ-raw t) raw.Pre
 
-abbrev raw-below : ℕ → In 5 raw-kinds.ps
-raw-below t = and 5 raw-kinds.ps (falls 5 raw-kinds.ps _<_ μ-raw t) raw.Pre
+abbrev raw-below : ℕ → In 3 raw-kinds.ps
+raw-below t = and 3 raw-kinds.ps (falls 3 raw-kinds.ps _<_ μ-raw t) raw.Pre
 
 abbrev coded-calls : ℕ → coded-lts.Claims
 coded-calls t = (symbol-at-reads.Asked, symbol-at-reads.Learnt, cut-reads.Asked, cut-reads.Learnt, ended-reads.Asked, ended-reads.Learnt, raw-below t, raw.Post, wide-reads.Asked, wide-reads.Learnt, coded-below t, coded.Post)
@@ -50,12 +51,12 @@ raw-calls t = (cut-reads.Asked, cut-reads.Learnt, eight-at-reads.Asked, eight-at
 
 -- what the find said, at each place after it
 found : (t : ℕ) (k : coded-lts.After-f (coded-calls t) (coded-at t) coded.Post)
-    → SymbolAt (walked (k .before .before .before .before .before .args .t .now .now)) (k .before .before .before .before .before .args .s .now .now)
-    (k .before .before .before .before .before .args .at) (k .before .before .before .before .before .args .prior) (k .f .given .0 .0)
+    → SymbolAt (walked (tableOf (k .before .before .before .before .args .titles))) (k .before .before .before .before .args .s .now .now)
+    (k .before .before .before .before .args .at) (k .before .before .before .before .args .prior) (k .f .given .0 .0)
     (k .f .given .0 .1 .0)
 found t k =
-    let a = k .before .before .before .before .before .args in
-    found-symbol (walked (a .t .now .now)) (a .s .now .now) (a .at) (a .prior) (k .before .before .symbol-at .ensures) (k .f .given .1)
+    let a = k .before .before .before .before .args in
+    found-symbol (walked (tableOf (a .titles))) (a .s .now .now) (a .at) (a .prior) (k .before .before .symbol-at .ensures) (k .f .given .1)
 
 coded-mul-total : (t : ℕ) → coded-lts.Need-mul-total (coded-calls t) (coded-at t) coded.Post
 coded-mul-total t c = search needs
@@ -77,8 +78,8 @@ coded-cut-requires t c κs = search needs
 
 coded-returns : (t : ℕ) → coded-lts.Need-returns (coded-calls t) (coded-at t) coded.Post
 coded-returns t c =
-    let a = c .before .before .before .before .before .before .args in
-    coded-early (found-early (walked (a .t .now .now)) (a .s .now .now) (a .at) (a .prior) (c .before .before .before .symbol-at .ensures)
+    let a = c .before .before .before .before .before .args in
+    coded-early (found-early (walked (tableOf (a .titles))) (a .s .now .now) (a .at) (a .prior) (c .before .before .before .symbol-at .ensures)
     (c .before .enum-told .given .1)) (c .cut .ensures)
 
 coded-sub-ended : (t : ℕ) → coded-lts.Need-sub-ended (coded-calls t) (coded-at t) coded.Post
@@ -167,7 +168,7 @@ raw-returns-3 : (t : ℕ) → raw-lts.Need-returns-3 (raw-calls t) (raw-at t) ra
 raw-returns-3 t c =
     let a = c .before .before .before .before .before .before .before .args in
     let q = c .before .before .before .before .eight-at in
-    let o : CodedAt (walked (a .t .now .now)) (a .s .now .now) (a .at + 8) (q .result) (a .n + 1) (set (a .out .now) (a .n) (c .before .before .wide .result))
+    let o : CodedAt (walked (tableOf (a .titles))) (a .s .now .now) (a .at + 8) (q .result) (a .n + 1) (set (a .out .now) (a .n) (c .before .before .wide .result))
     (c .coded .result) (c .coded .last .1 .1 .1 .1 .0) = c .coded .ensures in
     raw-unit (c .before .before .before .before .before .before .if1 .left) (q .ensures) (c .before .before .before .if2 .left) (c .before .before .wide .ensures) o
 

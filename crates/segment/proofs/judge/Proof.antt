@@ -9,11 +9,11 @@ coded-requires c κs = search needs
 
 returns : tie.Need-returns
 returns c =
-    whole-units (c .before .before .before .before .before .before .before .pre) (c .before .coded .ensures) (c .if1 .taken)
+    whole-units (c .before .before .before .before .before .pre) (c .before .coded .ensures) (c .if1 .taken)
 
 returns-2 : tie.Need-returns-2
 returns-2 c =
-    whole-refused (c .before .before .before .before .before .before .before .pre) (c .before .coded .ensures) (c .if1 .left)
+    whole-refused (c .before .before .before .before .before .pre) (c .before .coded .ensures) (c .if1 .left)
 
 pub judge-spec : {M : Type 1} → statement M
 judge-spec = tie.close (tie.spec coded-requires returns returns-2)

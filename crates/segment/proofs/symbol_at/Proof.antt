@@ -1,109 +1,33 @@
--- `segment::symbol_at` meets its contract. The loop: the walk from here is the whole walk.
-use mathlib.Core.Path.{_≡_, refl, _∙_}
-use Prim.Native.Nat.{_-_, _<_, _≤_}
-use native.Mathlib.Omega.{arith}
+-- `symbol_at` meets its contract.
+use Rattle.trees.specs.Which.{tableOf}
+use Rattle.segment.proofs.StepFinds.{step-made}
 use borrow.Author.Needs.{needs}
-use lib.ListN.{length, getD, drop}
-use Rattle.annex_c.specs.Tree.{root, tree, walk, walked}
-use Rattle.segment.specs.Bits.{bits}
-use Rattle.segment.proofs.BitLaws.{length-bits}
-use Rattle.segment.proofs.WalkLaws.{child-at, walk-early, walk-leaf, walk-node}
 use Rattle.segment.proofs.symbol_at.Statement.{statement}
 use Rattle.segment.proofs.symbol_at.Tie as tie
 
-abbrev Inv-loop : tie.InvT-loop
-Inv-loop t s at prior total base i₀ node₀ i node =
-    (node < 128) × (at ≤ i) × (walked t prior (drop at (bits s)) ≡ walk (tree t prior) node (drop i (bits s)))
+mul-step-of : tie.Need-mul-step-of
+mul-step-of c = search needs
 
-abbrev μ-loop : tie.MeasureT-loop
-μ-loop t s at prior total base i₀ node₀ i node = total - i
+window-requires : tie.Need-window-requires
+window-requires c κs = search needs
 
-mul-total : tie.Need-mul-total Inv-loop μ-loop
-mul-total c = omega arith
+add-step-of : tie.Need-add-step-of
+add-step-of c = search needs
 
-root-of-requires : tie.Need-root-of-requires Inv-loop μ-loop
-root-of-requires c κs = search needs
+step-of-requires : tie.Need-step-of-requires
+step-of-requires c κs = search needs
 
-loop-holds : tie.Need-loop-holds Inv-loop μ-loop
-unfolding walked
-loop-holds c = (omega arith, omega arith, refl)
+step-at-requires : tie.Need-step-at-requires
+step-at-requires c κs =
+    let a = c .before .before .before .args in
+    let p = c .before .before .before .pre in
+    let w = c .before .window in
+    (p .0, p .1, step-made (tableOf (a .titles)) (a .s .now) (a .at) (a .prior) (w .result) (c .step-of .result) (w .ensures) (c .step-of .ensures .0) (c .step-of .ensures .1))
 
-mul-byte : tie.Need-mul-byte Inv-loop μ-loop
-mul-byte c = omega arith
-
-bit-at-requires : tie.Need-bit-at-requires Inv-loop μ-loop
-bit-at-requires c κs = search needs
-
-add-byte : tie.Need-add-byte Inv-loop μ-loop
-add-byte c = omega arith
-
-add-byte-2 : tie.Need-add-byte-2 Inv-loop μ-loop
-add-byte-2 c = omega arith
-
-byte-requires : tie.Need-byte-requires Inv-loop μ-loop
-byte-requires c κs = search needs
-
-add-i : tie.Need-add-i Inv-loop μ-loop
-add-i c = omega arith
-
-cast-t17 : tie.Need-cast-t17 Inv-loop μ-loop
-cast-t17 c = omega arith
-
-returns : tie.Need-returns Inv-loop μ-loop
-returns c =
-    let q = c .before .before .before .before .loop in
-    let a = c .before .before .before .before .before .before .before .before .args in
-    let u = tree (a .t .now) (a .prior) in
-    let bs = bits (a .s .now) in
-    let h : q .i < length (bits (a .s .now)) = omega (arith, length-bits (a .s .now)) in
-    let root = c .before .before .before .before .before .root-of in
-    let v = child-at (a .t .now) (a .prior) (q .node) (root .result) (c .before .before .bit-at .result) (getD bs (q .i) 0) (c .before .byte .result)
-    (root .ensures .0) (c .before .before .bit-at .ensures .0) (c .before .byte .ensures .0) in
-    record {
-      reads = q .inv .2 ∙ walk-leaf u bs (q .node) (q .i) (c .before .byte .result) h v
-          (c .if1 .taken);
-      onward = omega arith;
-      inside = omega arith;
-    }
-
-loop-less : tie.Need-loop-less Inv-loop μ-loop
-loop-less c = omega arith
-
-loop-again : tie.Need-loop-again Inv-loop μ-loop
-loop-again c =
-    let q = c .before .before .before .before .loop in
-    let a = c .before .before .before .before .before .before .before .before .args in
-    let u = tree (a .t .now) (a .prior) in
-    let bs = bits (a .s .now) in
-    let h : q .i < length (bits (a .s .now)) = omega (arith, length-bits (a .s .now)) in
-    let root = c .before .before .before .before .before .root-of in
-    let v = child-at (a .t .now) (a .prior) (q .node) (root .result) (c .before .before .bit-at .result) (getD bs (q .i) 0) (c .before .byte .result)
-    (root .ensures .0) (c .before .before .bit-at .ensures .0) (c .before .byte .ensures .0) in
-    (c .if1 .left, omega arith, q .inv .2 ∙ walk-node u bs (q .node) (q .i) (c .before .byte .result) h v (c .if1 .left))
-
-returns-2 : tie.Need-returns-2 Inv-loop μ-loop
-returns-2 c =
-    let q = c .before .loop in
-    let a = c .before .before .before .before .before .args in
-    q .inv .2 ∙ walk-early (tree (a .t .now) (a .prior)) (bits (a .s .now)) (q .node) (q .i) (omega (arith, length-bits (a .s .now)))
+returns : tie.Need-returns
+returns c = search needs
 
 pub symbol-at-spec : {M : Type 1} → statement M
 symbol-at-spec =
     tie.close
-    (tie.spec
-    Inv-loop
-    μ-loop
-    mul-total
-    root-of-requires
-    loop-holds
-    mul-byte
-    bit-at-requires
-    add-byte
-    add-byte-2
-    byte-requires
-    add-i
-    cast-t17
-    returns
-    loop-less
-    loop-again
-    returns-2)
+    (tie.spec mul-step-of window-requires add-step-of step-of-requires step-at-requires returns)

@@ -1,6 +1,7 @@
 -- `segment::write` meets its contract.
 use mathlib.Core.Path.{sym, ap, _∙_}
 use lib.Seq.{sets}
+use Rattle.trees.specs.Which.{tableOf}
 use Rattle.annex_c.specs.Tree.{walked}
 use Rattle.segment.specs.Segment.{segmentText}
 use Rattle.segment.proofs.TextLaws.{written-units, written-refused}
@@ -14,11 +15,11 @@ coded-requires c κs = search needs
 
 slice-aggregate-copy : tie.Need-slice-aggregate-copy
 slice-aggregate-copy c =
-    whole-length (c .before .before .before .before .before .before .before .before .before .pre) (c .before .before .coded .ensures)
+    whole-length (c .before .before .before .before .before .before .before .pre) (c .before .before .coded .ensures)
 
 copy-requires : tie.Need-copy-requires
 copy-requires c κs =
-    whole-stored (c .before .before .before .before .before .before .before .before .before .before .pre)
+    whole-stored (c .before .before .before .before .before .before .before .before .pre)
     (c .before .before .before .coded .ensures) (c .before .before .if1 .taken) .0
 
 same-length : tie.Need-same-length
@@ -26,23 +27,23 @@ same-length c = search needs
 
 returns : tie.Need-returns
 returns c =
-    let a = c .before .before .before .before .before .before .before .before .before .before .before .before .before .args in
+    let a = c .before .before .before .before .before .before .before .before .before .before .before .args in
     let q = c .before .before .before .before .before .before .coded in
-    let short = c .before .before .before .before .before .before .before .before .before .before .before .before .before .pre in
+    let short = c .before .before .before .before .before .before .before .before .before .before .before .pre in
     let few = c .before .before .before .before .before .if1 .taken in
     let j = whole-units short (q .ensures) few in
     let u = whole-stored short (q .ensures) few .1 in (
       j,
       c .before .before .copy .ensures ∙ ap (sets (a .out .now) (a .n)) u ∙ sym
-          (written-units (a .out .now) (a .n) (q .result) (segmentText (walked (a .t1 .now)) (a .t2 .now)) (sym j)),
+          (written-units (a .out .now) (a .n) (q .result) (segmentText (walked (tableOf (a .titles))) (a .t2 .now)) (sym j)),
     )
 
 returns-2 : tie.Need-returns-2
 returns-2 c =
-    let a = c .before .before .before .before .before .before .before .before .args in
+    let a = c .before .before .before .before .before .before .args in
     let q = c .before .coded in
-    let j = whole-refused (c .before .before .before .before .before .before .before .before .pre) (q .ensures) (c .if1 .left) in
-    (j, sym (written-refused (a .out .now) (a .n) 11 (segmentText (walked (a .t1 .now)) (a .t2 .now)) (sym j)))
+    let j = whole-refused (c .before .before .before .before .before .before .pre) (q .ensures) (c .if1 .left) in
+    (j, sym (written-refused (a .out .now) (a .n) 11 (segmentText (walked (tableOf (a .titles))) (a .t2 .now)) (sym j)))
 
 pub write-spec : {M : Type 1} → statement M
 write-spec =

@@ -14,21 +14,19 @@ put-times-requires c κs = search needs
 put-rest-requires : tie.Need-put-rest-requires
 put-rest-requires c κs =
     let e = c .before .before .before .before .before .before .event-at .ensures in
-    let p = c .before .before .before .before .before .before .before .before .before .before .before .before .pre in
-    (p .0, (rw e (p .1 .1 .0), p .1 .1 .1))
+    let p = c .before .before .before .before .before .before .before .before .before .pre in
+    (rw e (p .1 .0), p .1 .1)
 
 same-length : tie.Need-same-length
 same-length c = search needs
 
-same-length-2 : tie.Need-same-length-2
-same-length-2 c = search needs
-
 returns : tie.Need-returns
 unfolding eventLine
 returns c =
-    let d = c .before .before .before .before .before .before .before .before .before in
+    let d = c .before .before .before .before .before .before .before in
     let e = d .before .before .event-at .ensures in
-    put-then (rw e at (d .put-times .ensures)) (rw e at (c .before .before .before .before .put-rest .ensures))
+    let r = c .before .before .put-rest .ensures in
+    (put-then (rw e at (d .put-times .ensures)) (rw e at (r .0)), r .1)
 
 pub put-event-spec : {M : Type 1} → statement M
 put-event-spec =
@@ -38,5 +36,4 @@ put-event-spec =
     put-times-requires
     put-rest-requires
     same-length
-    same-length-2
     returns)

@@ -22,13 +22,12 @@ put-all-requires-2 c κs = search needs
 same-length : tie.Need-same-length
 same-length c = search needs
 
-same-length-2 : tie.Need-same-length-2
-same-length-2 c = search needs
-
 returns : tie.Need-returns
 returns c =
-    let d = c .before .before .before .before .before .before .before .before .before in
-    put-then (d .before .before .before .before .before .put-all .ensures) (put-then (d .put-title .ensures) (c .before .before .put-all2 .ensures))
+    let d = c .before .before .before .before .before .before .before in (
+      put-then (d .before .before .before .before .before .put-all .ensures) (put-then (d .put-title .ensures .0) (c .before .before .put-all2 .ensures)),
+      d .put-title .ensures .1,
+    )
 
 pub put-rest-spec : {M : Type 1} → statement M
 put-rest-spec =
@@ -40,5 +39,4 @@ put-rest-spec =
     slice-aggregate-put-all-2
     put-all-requires-2
     same-length
-    same-length-2
     returns)

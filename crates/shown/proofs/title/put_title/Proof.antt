@@ -1,5 +1,6 @@
 -- `put_title` meets its contract.
 use Rattle.shown.specs.Titles.{titleShown}
+use mathlib.Core.Path.{refl}
 use borrow.Author.Needs.{needs}
 use Rattle.shown.proofs.title.put_title.Statement.{statement}
 use Rattle.shown.proofs.title.put_title.Tie as tie
@@ -28,35 +29,32 @@ enum-known-t c = search needs
 put-text-requires : tie.Need-put-text-requires
 put-text-requires c κs =
     let d = c .before .before .before in
-    let p = d .before .before .before .before .before .before .before .pre in
-    let q = rw (d .t .given .1) at (p .1 .0) in
-    (p .0, (q .0, (q .1, p .1 .1)))
+    let p = d .before .before .before .before .pre in
+    let q = rw (d .t .given .1) at (p .0) in
+    (q .0, (q .1, p .1))
 
 same-length : tie.Need-same-length
 same-length c = search needs
 
 returns : tie.Need-returns
 unfolding titleShown
-returns c = rw (c .before .before .before .before .before .enum-told .given .1) (c .before .before .put-all .ensures)
+returns c = (rw (c .before .before .before .before .before .enum-told .given .1) (c .before .before .put-all .ensures), refl)
 
 same-length-2 : tie.Need-same-length-2
 same-length-2 c = search needs
 
 returns-2 : tie.Need-returns-2
 unfolding titleShown
-returns-2 c = rw (c .before .before .before .before .before .enum-told2 .given .1) (c .before .before .put-all2 .ensures)
+returns-2 c = (rw (c .before .before .before .before .before .enum-told2 .given .1) (c .before .before .put-all2 .ensures), refl)
 
 same-length-3 : tie.Need-same-length-3
 same-length-3 c = search needs
 
-same-length-4 : tie.Need-same-length-4
-same-length-4 c = search needs
-
 returns-3 : tie.Need-returns-3
 unfolding titleShown
 returns-3 c =
-    let d = c .before .before .before .before in
-    rw (d .before .before .before .before .t .given .1) (d .put-text .ensures)
+    let d = c .before .before in
+    (rw (d .before .before .before .before .t .given .1) (d .put-text .ensures .0), d .put-text .ensures .1)
 
 pub put-title-spec : {M : Type 1} → statement M
 put-title-spec =
@@ -75,5 +73,4 @@ put-title-spec =
     same-length-2
     returns-2
     same-length-3
-    same-length-4
     returns-3)

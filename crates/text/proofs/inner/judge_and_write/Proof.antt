@@ -21,14 +21,14 @@ enum-told : tie.Need-enum-told
 enum-told c = search needs
 
 returns : tie.Need-returns
-returns c = let a = c .before .before .before .before .before .before .before .before .before .args in
+returns c = let a = c .before .before .before .before .before .before .before .args in
     let x = joinedUnits (a .s .now) (a .end) (a .m) (a .from) in
     let e = c .enum-told .given .1 in
     rw e (text-refused (a .out .now) x _ (from-refusal x _ (sym (ap numberOutcome e) ∙ c .before .before .before .all-segments .ensures .answers)))
 
 returns-2 : tie.Need-returns-2
 returns-2 c = let d = c .before .before in
-    let a = d .before .before .before .before .before .before .before .before .before .args in
+    let a = d .before .before .before .before .before .before .before .args in
     let n = sym (ap numberOutcome (d .first .given .1)) ∙ d .before .before .before .all-segments .ensures .answers in
     text-short (a .out .now) (joinedUnits (a .s .now) (a .end) (a .m) (a .from)) _ n (c .if1 .taken)
 
@@ -40,7 +40,7 @@ same-length c = search needs
 
 returns-3 : tie.Need-returns-3
 returns-3 c = let d = c .before .before .before .before .before .before in
-    let a = d .before .before .before .before .before .before .before .before .before .args in
+    let a = d .before .before .before .before .before .before .before .args in
     let n = sym (ap numberOutcome (d .first .given .1)) ∙ d .before .before .before .all-segments .ensures .answers in
     text-fits (a .out .now) (joinedUnits (a .s .now) (a .end) (a .m) (a .from)) _ _ _ n (c .before .before .before .before .if1 .left) (c .before .before .all-segments2 .ensures)
 

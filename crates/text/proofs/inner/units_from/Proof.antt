@@ -3,23 +3,11 @@ use borrow.Author.Needs.{needs}
 use Rattle.text.proofs.inner.units_from.Statement.{statement}
 use Rattle.text.proofs.inner.units_from.Tie as tie
 
-titles-requires : tie.Need-titles-requires
-titles-requires c κs = search needs
-
-descriptions-requires : tie.Need-descriptions-requires
-descriptions-requires c κs = search needs
-
 slice-aggregate-all-segments : tie.Need-slice-aggregate-all-segments
 slice-aggregate-all-segments c = search needs
 
-slice-aggregate-all-segments-2 : tie.Need-slice-aggregate-all-segments-2
-slice-aggregate-all-segments-2 c = search needs
-
 back-requires : tie.Need-back-requires
 back-requires c κs = search needs
-
-slice-aggregate-all-segments-3 : tie.Need-slice-aggregate-all-segments-3
-slice-aggregate-all-segments-3 c = search needs
 
 all-segments-requires : tie.Need-all-segments-requires
 all-segments-requires c κs = search needs
@@ -31,11 +19,7 @@ pub units-from-spec : {M : Type 1} → statement M
 units-from-spec =
     tie.close
     (tie.spec
-    titles-requires
-    descriptions-requires
-    slice-aggregate-all-segments
-    slice-aggregate-all-segments-2
     back-requires
-    slice-aggregate-all-segments-3
+    slice-aggregate-all-segments
     all-segments-requires
     returns)

@@ -10,11 +10,11 @@ use Rattle.text.proofs.segments.all_segments.Statement.{statement}
 use Rattle.text.proofs.segments.all_segments.Tie as tie
 
 abbrev Inv-loop : tie.InvT-loop
-Inv-loop titles descriptions s end m from out₀ at₀ left₀ n₀ out at left n =
+Inv-loop s end m from out₀ at₀ left₀ n₀ out at left n =
     Going (joinedUnits s end m from) out₀ m (joinedUnits s end left at) out left n
 
 abbrev μ-loop : tie.MeasureT-loop
-μ-loop titles descriptions s end m from out₀ at₀ left₀ n₀ out at left n = left
+μ-loop s end m from out₀ at₀ left₀ n₀ out at left n = left
 
 loop-holds : tie.Need-loop-holds Inv-loop μ-loop
 loop-holds c = going-first _ _ _
@@ -34,16 +34,16 @@ same-length c = search needs
 returns : tie.Need-returns Inv-loop μ-loop
 returns c = let d = c .before .before .before .before in
     let q = d .loop in
-    let a = d .before .before .before .before .before .args in
+    let a = d .before .before .before .args in
     let w = goes (c .before .before .segments .ensures ∙ many-once _ _) (c .enum-told .given .1) in
     going-refused (q .inv) Body _ (units-bad (a .s .now) (a .end) (q .left) (q .at) _ (omega arith) w)
 
 segment-at-requires : tie.Need-segment-at-requires Inv-loop μ-loop
 segment-at-requires c κs = let d = c .before .before .before .before in
     let q = d .before .before .loop in
-    let a = d .before .before .before .before .before .before .before .args in
+    let a = d .before .before .before .before .before .args in
     let w = goes (d .segments .ensures ∙ many-once _ _) (c .before .before .w .given .1) in
-    (d .before .before .before .before .before .before .before .pre .0, omega (arith, segment-ends (a .s .now) (a .end) (q .at) _ w))
+    omega (arith, segment-ends (a .s .now) (a .end) (q .at) _ w)
 
 enum-known-u : tie.Need-enum-known-u Inv-loop μ-loop
 enum-known-u c = search needs
@@ -58,7 +58,7 @@ returns-2 : tie.Need-returns-2 Inv-loop μ-loop
 returns-2 c = let v = c .before .before .before .before .before .before .before in
     let d = v .before .before in
     let q = d .before .before .loop in
-    let a = d .before .before .before .before .before .before .before .args in
+    let a = d .before .before .before .before .before .args in
     let w = goes (d .segments .ensures ∙ many-once _ _) (v .w .given .1) in
     let j = units-on (a .s .now) (a .end) (q .left) (q .at) _ (omega arith) w in
     going-stop (q .inv) _ _ _ j _ _ (c .before .before .before .before .segment-at .ensures) (c .enum-told2 .given .1)
@@ -67,7 +67,7 @@ add-n : tie.Need-add-n Inv-loop μ-loop
 add-n c = let d = c .before .before .before .before .before .before .before .before .before .before .before .before in
     let q = d .loop in
     let k = wrote-few _ (c .before .before .before .before .before .segment-at .ensures) (c .before .u .given .1) in
-    omega (arith, q .inv .few, q .inv .down, d .before .before .before .before .before .pre .1)
+    omega (arith, q .inv .few, q .inv .down, d .before .before .before .pre)
 
 sub-left : tie.Need-sub-left Inv-loop μ-loop
 sub-left c = search needs
@@ -79,7 +79,7 @@ loop-again : tie.Need-loop-again Inv-loop μ-loop
 loop-again c = let v = c .before .before .before .before .before .before .before .before in
     let d = v .before .before in
     let q = d .before .before .loop in
-    let a = d .before .before .before .before .before .before .before .args in
+    let a = d .before .before .before .before .before .args in
     let w = goes (d .segments .ensures ∙ many-once _ _) (v .w .given .1) in
     let j = units-on (a .s .now) (a .end) (q .left) (q .at) _ (omega arith) w in
     going-on (q .inv) _ _ _ j _ _ (omega arith) (c .before .before .before .before .before .segment-at .ensures) (c .before .u .given .1)
@@ -89,7 +89,7 @@ same-length-3 c = search needs
 
 returns-3 : tie.Need-returns-3 Inv-loop μ-loop
 returns-3 c = let q = c .before .loop in
-    let a = c .before .before .before .before .before .before .args in
+    let a = c .before .before .before .before .args in
     going-done (q .inv) (units-none (a .s .now) (a .end) (q .left) (q .at) (omega arith))
 
 pub all-segments-spec : {M : Type 1} → statement M

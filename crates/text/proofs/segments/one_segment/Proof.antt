@@ -3,6 +3,7 @@ use Rattle.text.proofs.UnitLaws.{wrote-refused}
 use Rattle.text.specs.Segments.{unitsBy}
 use Rattle.segment.proofs.PrintedLaws.{by-titles, by-descriptions}
 use Rattle.refusal.specs.declared.Refusal.the-variants.{NotAReadPair}
+use Rattle.trees.specs.Which.{tableOf}
 use mathlib.Core.Path.{refl}
 use borrow.Author.Needs.{needs}
 use Rattle.text.proofs.segments.one_segment.Statement.{statement}
@@ -53,23 +54,23 @@ same-length-3 : tie.Need-same-length-3
 same-length-3 c = search needs
 
 returns-3 : tie.Need-returns-3
-unfolding unitsBy
+unfolding unitsBy tableOf
 returns-3 c = let d = c .before .before .before .before in
-    let s = d .before .before .before .before .before .before .args .s .now in
-    rw (d .enum-told3 .given .1, ← by-titles s, ← d .before .before .before .before .before .before .pre .0 .titles) (c .before .before .compressed .ensures)
+    let s = d .before .before .before .before .args .s .now in
+    rw (d .enum-told3 .given .1, ← by-titles s) (c .before .before .compressed .ensures)
 
 same-length-4 : tie.Need-same-length-4
 same-length-4 c = search needs
 
 returns-4 : tie.Need-returns-4
-unfolding unitsBy
+unfolding unitsBy tableOf
 returns-4 c = let d = c .before .before .before .before in
-    let s = d .before .before .before .before .before .before .args .s .now in
-    rw (d .enum-told4 .given .1, ← by-descriptions s, ← d .before .before .before .before .before .before .pre .0 .descriptions) (c .before .before .compressed2 .ensures)
+    let s = d .before .before .before .before .args .s .now in
+    rw (d .enum-told4 .given .1, ← by-descriptions s) (c .before .before .compressed2 .ensures)
 
 returns-5 : tie.Need-returns-5
 unfolding unitsBy
-returns-5 c = let a = c .before .before .before .before .before .before .args in
+returns-5 c = let a = c .before .before .before .before .args in
     rw (c .enum-told5 .given .1) (wrote-refused _ (a .out .now) (a .n) NotAReadPair _ refl refl)
 
 pub one-segment-spec : {M : Type 1} → statement M

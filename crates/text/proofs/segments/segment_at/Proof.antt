@@ -31,8 +31,8 @@ part-of-requires c κs = search needs
 
 one-segment-requires : tie.Need-one-segment-requires
 one-segment-requires c κs = let b = c .before .before in
-    let a = b .before .before .before .before .before .before .before .before .args in
-    (b .before .before .before .before .before .before .before .before .pre .0, few-bytes (a .s .now) _ (a .at + 3) (b .byte3 .result) (c .before .part-of .ensures) (b .byte3 .ensures .1 .0))
+    let a = b .before .before .before .before .before .before .args in
+    few-bytes (a .s .now) _ (a .at + 3) (b .byte3 .result) (c .before .part-of .ensures) (b .byte3 .ensures .1 .0)
 
 same-length : tie.Need-same-length
 same-length c = search needs
@@ -40,7 +40,7 @@ same-length c = search needs
 returns : tie.Need-returns
 returns c = let p = c .before .before .before .before in
     let w = p .before .before in
-    let a = w .before .before .before .before .before .before .before .args in
+    let a = w .before .before .before .before .before .args in
     let e = units-at (a .s .now) _ (a .at) _ _ _ _ (w .before .before .byte .ensures .0) (w .before .byte2 .ensures .0) (p .before .byte3 .ensures .0) (w .way-of .ensures)
     (p .part-of .ensures)
     in

@@ -1,0 +1,159 @@
+-- One pass: what is answered and stored of a segment, and of the segments of a string.
+use mathlib.Core.Path.{_≡_, refl, sym, ap, subst, _∙_}
+use mathlib.Core.List.{List, []}
+use Prim.Native.Nat.{ℕ, zero, suc, _+_, _-_, _*_, _<_, _≤_}
+use native.Mathlib.Omega.{arith}
+use lib.ListN.{length, take}
+use lib.Seq.{sets, length-sets}
+use Rattle.bytes_at.specs.Fields.{byteAt}
+use Rattle.refusal.specs.Numbers.{numberOf}
+use Rattle.refusal.specs.Outcomes.{Outcome, refused, result}
+use Rattle.refusal.specs.declared.Refusal.{Refusal}
+use Rattle.annex_c.specs.Codes.{Reading}
+use Rattle.segment.specs.declared.Judged.the-variants as judges
+use Rattle.segment.specs.Bits.{bits}
+use Rattle.segment.specs.Text.{Text, done, unit, units, judged}
+use Rattle.segment.specs.Text as texts
+use Rattle.segment.specs.Segment.{segmentText}
+use Rattle.segment.specs.Inner.{answer}
+use Rattle.segment.specs.Inner as pair
+use Rattle.segment.proofs.BitLaws.{length-bits}
+use Rattle.segment.proofs.TextLaws.{Fits, answer-count, stored}
+use Rattle.segment.proofs.SegmentLaws.{coded-fits}
+use Rattle.text.specs.declared.answer.Answer.{Answer}
+use Rattle.text.specs.declared.answer.Answer.the-variants.{Value, Refused}
+use Rattle.text.specs.Segments.{textUnits, segmentUnits}
+use Rattle.text.specs.Inner as inner
+use Rattle.text.specs.Inner.{Wrote, Once, WroteAll, OnceAll}
+use Rattle.refusal.proofs.OutcomeLaws.{same-result, not-both}
+use Rattle.refusal.proofs.OutputLaws.{counted-result, counted-refused, from-number, from-refusal}
+use Rattle.text.proofs.FewLaws.{Few, segment-few}
+use Rattle.text.proofs.JoinLaws.{Going, going-refused, going-done, going-next, joined-refused}
+use Rattle.text.specs.Strings.{joined}
+
+-- ---- one segment
+pub once-units : (x : Outcome (List ℕ)) (l : List ℕ) (n k : ℕ) (us e : List ℕ) → x ≡ result us → k ≡ length us → e ≡ sets l n us
+    → Once x l n (Value k) e
+once-units x l n k us e q c w = record {
+  answers = rw (q, c, counted-result us);
+  stores = λ vs v. w ∙ ap (sets l n) (same-result us vs (sym q ∙ v));
+  long = ap length w ∙ length-sets l n us;
+}
+
+pub once-refused : (x : Outcome (List ℕ)) (l : List ℕ) (n : ℕ) (r : Refusal) (e : List ℕ) → x ≡ refused (numberOf r) → length e ≡ length l
+    → Once x l n (Refused r) e
+once-refused x l n r e q w = record {
+  answers = rw (q, counted-refused (numberOf r));
+  stores = λ vs v. not-both (numberOf r) vs (sym q ∙ v);
+  long = w;
+}
+
+length-stored : (l : List ℕ) (n : ℕ) (x : Outcome (List ℕ)) → length (inner.stored l n x) ≡ length l
+unfolding inner.stored
+length-stored l n (refused k) = refl
+length-stored l n (result us) = length-sets l n us
+
+pub once-wrote : {x : Outcome (List ℕ)} {l : List ℕ} {n : ℕ} {r : Answer} {e : List ℕ} → Wrote x l n r e → Once x l n r e
+unfolding inner.stored
+once-wrote {x} {l} {n} {r} {e} w = record {
+  answers = w .answers;
+  stores = λ us q. w .stores ∙ ap (inner.stored l n) q;
+  long = ap length (w .stores) ∙ length-stored l n x;
+}
+
+-- an answer below 4096 is a text that ends well, and another one that is refused, wherever the count begins
+well : (n m : ℕ) (x : Text) → answer n x < 4096 → judged m x ≡ judges.Units (m + length (units x))
+unfolding answer judged units
+well n m done h = ap judges.Units (omega arith)
+well n m (texts.refused k) h = absurd (omega arith)
+well n m (unit u x) h = well (n + 1) (m + 1) x h ∙ ap judges.Units (omega arith)
+
+broken : (n m k : ℕ) (x : Text) → Fits k x → n + k < 4096 → 4096 ≤ answer n x → judged m x ≡ judges.Refused 11
+unfolding answer judged
+broken n m k done f b h = absurd (omega arith)
+broken n m k (texts.refused j) f b h = ap judges.Refused f
+broken n m zero (unit u x) f b h = absurd f
+broken n m (suc k) (unit u x) f b h = broken (n + 1) (m + 1) k x f (omega arith) h
+
+module _ (read : ℕ → List ℕ → Reading) (s : List ℕ) (l e : List ℕ) (n a : ℕ) (room : n + 8 * length s ≤ 2040)
+    (o : pair.Outcome (segmentText read s) n l a e) where
+  fits : Fits (length (bits s)) (segmentText read s)
+  unfolding segmentText
+  fits = coded-fits read (length (bits s)) 0 (bits s)
+
+  place : a < 4096 → a ≡ n + length (units (segmentText read s))
+  place h = o .answers ∙ answer-count n (segmentText read s) (rw (o .answers) at h)
+
+  pub once-after : a < 4096 → n ≤ a
+  once-after h = omega (arith, place h)
+
+  pub once-text : a < 4096 → Once (textUnits (segmentText read s)) l n (Value (a - n)) e
+  unfolding textUnits
+  once-text h =
+      let d = well n 0 (segmentText read s) (rw (o .answers) at h) in
+      once-units (textUnits (segmentText read s)) l n (a - n) (units (segmentText read s)) e (rw (textUnits, d)) (omega (arith, place h)) (o .stores)
+
+  pub once-broken : (r : Refusal) → numberOf r ≡ 11 → 4096 ≤ a → Once (textUnits (segmentText read s)) l n (Refused r) e
+  unfolding textUnits
+  once-broken r q h =
+      let d = broken n 0 (length (bits s)) (segmentText read s) fits (omega (arith, length-bits s)) (rw (o .answers) at h) in
+      once-refused (textUnits (segmentText read s)) l n r e (rw (textUnits, d, q)) (ap length (o .stores) ∙ length-sets l n (units (segmentText read s)))
+
+-- ---- the segments of a string
+module _ (s : List ℕ) (at : ℕ) {l : List ℕ} {n : ℕ} {u : Answer} {e : List ℕ} where
+  pub once-few : (k : ℕ) → Once (segmentUnits s at) l n u e → u ≡ Value k → k ≤ 8 * byteAt s (at + 2)
+  once-few k w q =
+      let v : Once (segmentUnits s at) l n (Value k) e = rw q at w in
+      let f = from-number (segmentUnits s at) k (v .answers) in
+      let b : length (f .0) ≤ 8 * byteAt s (at + 2) = subst (Few (8 * byteAt s (at + 2))) (f .1 .0) (segment-few s at) in
+      omega (arith, b, f .1 .1)
+
+module _ {x : Outcome (List ℕ)} {l₀ : List ℕ} {m : ℕ} {y : Outcome (List ℕ)} {l : List ℕ} {left n : ℕ} (g : Going x l₀ m y l left n) where
+  pub onced-refused : (r : Refusal) → y ≡ refused (numberOf r) → OnceAll x l₀ (Refused r) l
+  onced-refused r q = record {
+    wrote = going-refused g r l q;
+    long = g .long;
+    few = λ k v. let z : _≡_ {A = ℕ} 0 1 = cc in absurd (omega arith);
+  }
+
+  pub onced-done : n ≤ 2040 → y ≡ result [] → OnceAll x l₀ (Value n) l
+  onced-done h q = record { wrote = going-done g q; long = g .long; few = λ k v. let z : n ≡ k = cc in omega arith }
+
+  module _ (z y′ : Outcome (List ℕ)) (l′ : List ℕ) (j : y ≡ joined z y′) (u : Answer) (w : Once z l n u l′) where
+    pub onced-stop : (r : Refusal) → u ≡ Refused r → OnceAll x l₀ u l′
+    onced-stop r q =
+        let e : z ≡ refused (numberOf r) = from-refusal z (numberOf r) (rw q at (w .answers)) in
+        rw q (record {
+          wrote = going-refused g r l′ (j ∙ joined-refused z y′ (numberOf r) e);
+          long = w .long ∙ g .long;
+          few = λ k v. let z : _≡_ {A = ℕ} 0 1 = cc in absurd (omega arith);
+        })
+
+    pub onced-on : (k : ℕ) → 0 < left → u ≡ Value k → k ≤ 2040 → Going x l₀ m y′ l′ (left - 1) (n + k)
+    onced-on k h q b =
+        let v : Once z l n (Value k) l′ = rw q at w in
+        let f = from-number z k (v .answers) in
+        going-next g z y′ l′ j (f .0) k h (f .1 .0) (f .1 .1) (omega (arith, f .1 .1)) (v .stores (f .0) (f .1 .0))
+
+pub onced-missing : (x : Outcome (List ℕ)) (l : List ℕ) (r : Refusal) → x ≡ refused (numberOf r) → OnceAll x l (Refused r) l
+onced-missing x l r q = record {
+  wrote = record { answers = rw (q, counted-refused (numberOf r)); stores = λ us u. not-both (numberOf r) us (sym q ∙ u) };
+  long = refl;
+  few = λ k v. let z : _≡_ {A = ℕ} 0 1 = cc in absurd (omega arith);
+}
+
+-- ---- the units out of the array
+pub copied-all : (x : Outcome (List ℕ)) (l o₀ o e : List ℕ) (n : ℕ) (r : Answer) → OnceAll x o₀ r o → r ≡ Value n → length o ≡ 2040
+    → e ≡ sets l 0 (take n o) → WroteAll x l (Value n) e
+copied-all x l o₀ o e n r w q h c =
+    let v : OnceAll x o₀ (Value n) o = rw q at w in
+    let b = v .few n refl in
+    record {
+      answers = v .wrote .answers;
+      stores = λ us t.
+          let f = from-number x n (v .wrote .answers) in
+          let d : us ≡ f .0 = same-result us (f .0) (sym t ∙ f .1 .0) in
+          let k : n ≡ length us = f .1 .1 ∙ ap length (sym d) in
+          let p : length us ≤ length o₀ = omega (arith, v .long) in
+          c ∙ ap (sets l 0) (ap (take n) (v .wrote .stores us t) ∙ ap (λ (i : ℕ). take i (sets o₀ 0 us)) k ∙ stored o₀ us p);
+    }

@@ -1,0 +1,3 @@
+-- The laws of keys and of packed bytes.
+pub mod Past
+pub mod Packed
