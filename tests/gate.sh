@@ -4,7 +4,7 @@
 set -u -o pipefail
 cd "$(dirname "$0")/.."
 
-for tool in rt python3 gcc tee tail timeout diff; do
+for tool in rt python3 tee tail timeout diff; do
     command -v "$tool" > /dev/null || { echo "FAILED missing tool: $tool"; exit 1; }
 done
 
@@ -25,7 +25,7 @@ listed_as() { # EXAMPLE
     timeout 10 sh tools/run.sh target/bin/lister < "$1.bin" | diff "$1.txt" -
 }
 
-for name in test_judging test_reading test_text test_writing test_shelf; do
+for name in test_judging test_reading test_text test_writing test_shelf test_lent; do
     compare "$name" python3 "tests/$name.py" --check
 done
 compare examples python3 examples/make.py --check
@@ -34,11 +34,6 @@ compare lister_all_kinds listed_as examples/all_kinds
 compare lister_vectors python3 tests/lister_vectors.py
 compare annex_c_data python3 tools/check_annex_c.py
 compare annex_c_crate python3 tools/annex_c.py --check
-# C links the library only on the machine whose code it is
-if [ "$(uname -m)" = x86_64 ]; then
-    compare judge_on_a_small_stack bash bench/judge.sh
-else
-    echo "left out: judge_on_a_small_stack, since the library is code for x86-64 and C is compiled for $(uname -m) here"
-fi
+compare stack_of_each_call sh bench/stack.sh
 
 tail -n 1 "$said"
