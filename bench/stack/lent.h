@@ -1,24 +1,8 @@
 // The lent memory of a shelf: watch records, rows of five numbers for the places, the area, a question and a reply. Watch w has the PID w
 // and the extension 7.
-#include <stddef.h>
-#include <stdint.h>
+#include "lent_calls.h"
 
-enum { RECORDS = 16, PLACES = 64, PLACE = 4096, ROW = 5, QUOTA = PLACES / RECORDS, LAST = RECORDS - 1, QUESTION = 4, REPLY = 3 };
-
-typedef struct {
-    uint8_t live;
-    struct {
-        uint16_t pid;
-        uint8_t table_id;
-        uint16_t extension;
-    } key;
-    uint8_t quota, heard, version, last;
-} LentWatch;
-
-typedef uint32_t Call(LentWatch *watches, size_t records, uint32_t *places, size_t numbers, uint8_t *area, size_t size,
-                      const uint8_t *section, size_t n, const uint32_t *question, size_t asked, uint32_t *reply, size_t told);
-
-Call lent_open, lent_close, lent_status, lent_fetch, lent_deliver;
+enum { RECORDS = 16, PLACES = 64, PLACE = 4096, QUOTA = PLACES / RECORDS, LAST = RECORDS - 1 };
 
 typedef struct {
     LentWatch watch[RECORDS];

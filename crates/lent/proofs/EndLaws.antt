@@ -20,18 +20,18 @@ use Rattle.shelf.specs.Calls.{closed, fetched, opened, statusAfter}
 use Rattle.shelf.specs.Delivery.{areaAfter, delivered, delivering}
 use Rattle.lent.specs.Meaning.{blank, lent, meaning, numberAt, recordOf, shelfIn}
 use Rattle.lent.specs.Changes.{changedAt, compared, recordPut, recordsAfter, rowsAfter}
-use Rattle.lent.specs.Calls.{Left, Reading, amountIn, askedIn, askingIn, called, closingIn, deliveryIn, fetchingIn, left, lentCall, numberIn, openingIn, partNumbers, replyAfter, sizesFit, statusNumbers}
+use Rattle.lent.specs.Calls.{Left, Reading, amountIn, askedIn, askingIn, called, closingIn, deliveryIn, fetchingIn, left, lentCall, numberIn, openingIn, partNumbers, replyAfter, callFits, statusNumbers}
 use Rattle.lent.specs.Inner.{Ends, endingAt, endingOf}
 use Rattle.lent.specs.declared.records.Book.{Book}
 use Rattle.lent.specs.declared.records.Ending.{Ending}
 use Rattle.lent.specs.declared.records.LentWatch.{LentWatch}
 
-pub question-is : (q y : List ℕ) → sizesFit q y ≡ true → length q ≡ 4
-unfolding sizesFit
+pub question-is : (q y : List ℕ) → callFits q y ≡ true → length q ≡ 4
+unfolding callFits
 question-is q y e = eqb-true (length q) 4 (and-left (eqb (length q) 4) (eqb (length y) 3) e)
 
-pub reply-is : (q y : List ℕ) → sizesFit q y ≡ true → length y ≡ 3
-unfolding sizesFit
+pub reply-is : (q y : List ℕ) → callFits q y ≡ true → length y ≡ 3
+unfolding callFits
 reply-is q y e = eqb-true (length y) 3 (and-right (eqb (length q) 4) (eqb (length y) 3) e)
 
 -- ---- the ending's record, written, is what the definition writes
@@ -55,7 +55,7 @@ unfolding endingAt
 ending-number i n s t k = pick-number (ltb i n) k _ _ refl refl
 
 -- ---- memory that no rule allows
-pub broken-said : (f : Reading) (k : Book) (l area b q y : List ℕ) (r : Ending) → sizesFit q y ≡ false → r ≡ record { number = 14; at = k .records; watch = blank } → Ends f k l area b q y r l area y
+pub broken-said : (f : Reading) (k : Book) (l area b q y : List ℕ) (r : Ending) → callFits q y ≡ false → r ≡ record { number = 14; at = k .records; watch = blank } → Ends f k l area b q y r l area y
 unfolding called
 broken-said f k l area b q y r e g = λ ws h.
     (λ z. left (g z .number) (set ws (g z .at) (g z .watch)) l area y)
@@ -63,7 +63,7 @@ broken-said f k l area b q y r e g = λ ws h.
     ∙ sym (ap (λ (c : Bool). pick c (lentCall (lent ws l area) (f b q) y) (record { number = 14; state = lent ws l area; reply = y })) e)
 
 -- ---- the calls, each from the shelf before it, its answer and the shelf after it
-module _ (k : Book) (l area b q y : List ℕ) (s t : Shelf) (n : ℕ) (r : Ending) (l′ : List ℕ) (sized : sizesFit q y ≡ true) (h : s ≡ shelfIn (k .records) (k .watches) l)
+module _ (k : Book) (l area b q y : List ℕ) (s t : Shelf) (n : ℕ) (r : Ending) (l′ : List ℕ) (sized : callFits q y ≡ true) (h : s ≡ shelfIn (k .records) (k .watches) l)
     (e : (r ≡ endingOf s t n) × (l′ ≡ rowsAfter s t l)) where
   -- what is left, of the shelf before and the answer
   abbrev leaving : {A : Type 0} → Shelf → List LentWatch → List ℕ → List ℕ → After A → Left

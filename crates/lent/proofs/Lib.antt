@@ -5,3 +5,5 @@ pub mod RowLaws
 pub mod ReplyLaws
 pub mod EndLaws
 pub mod Thin
+pub mod Front
+pub mod ByValue

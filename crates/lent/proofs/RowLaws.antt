@@ -15,19 +15,19 @@ use Rattle.logic.specs.Loops.{one}
 use Rattle.shelf_state.specs.Records.{placeAt}
 use Rattle.shelf_state.specs.declared.records.Place.{Place}
 use Rattle.shelf_state.specs.declared.records.Shelf.{Shelf}
-use Rattle.lent.specs.Meaning.{clamp, rowAt, rowCount, rowsIn}
+use Rattle.lent.specs.Meaning.{clamp, placeMeant, rowCount, placesMeant}
 use Rattle.lent.specs.Changes.{equalPlace, rowPut, rowsBelow, writeRow}
 
-pub places-none : (l : List ℕ) (d : List Place) → d ≡ rowsIn 0 l d
-unfolding rowsIn
+pub places-none : (l : List ℕ) (d : List Place) → d ≡ placesMeant 0 l d
+unfolding placesMeant
 places-none l d = refl
 
-pub places-step : (l : List ℕ) (d ps : List Place) (i : ℕ) (p : Place) → ps ≡ rowsIn i l d → p ≡ rowAt l i → set ps i p ≡ rowsIn (i + 1) l d
-unfolding rowsIn
+pub places-step : (l : List ℕ) (d ps : List Place) (i : ℕ) (p : Place) → ps ≡ placesMeant i l d → p ≡ placeMeant l i → set ps i p ≡ placesMeant (i + 1) l d
+unfolding placesMeant
 places-step l d ps i p e f = rw (e, f, add-one i)
 
-pub places-end : (l : List ℕ) (d ps : List Place) (i n : ℕ) → i ≤ n → n ≤ i → ps ≡ rowsIn i l d → ps ≡ rowsIn n l d
-places-end l d ps i n h g e = at-end (λ n. rowsIn n l d) h g e
+pub places-end : (l : List ℕ) (d ps : List Place) (i n : ℕ) → i ≤ n → n ≤ i → ps ≡ placesMeant i l d → ps ≡ placesMeant n l d
+places-end l d ps i n h g e = at-end (λ n. placesMeant n l d) h g e
 
 -- ---- how many rows are read
 pub count-fits : (n : ℕ) → rowCount n * 5 ≤ n

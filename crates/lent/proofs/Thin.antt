@@ -60,17 +60,17 @@ use Rattle.lent.proofs.on_book.deliver as co
 use Rattle.lent.proofs.calls.lent_deliver as f
 
 -- the name of the records' type, under a reference; a slice's type
-abbrev named-record : Ty
+abbrev pub named-record : Ty
 named-record = tyNamed (108 ∷ 101 ∷ 110 ∷ 116 ∷ 58 ∷ 58 ∷ 114 ∷ 101 ∷ 99 ∷ 111 ∷ 114 ∷ 100 ∷ 115 ∷ 58 ∷ 58 ∷ 76 ∷ 101 ∷ 110 ∷ 116 ∷ 87 ∷ 97 ∷ 116 ∷ 99 ∷ 104 ∷ [], [])
 
-abbrev slice : Lifetime → Mutability → Ty → Ty
+abbrev pub slice : Lifetime → Mutability → Ty → Ty
 slice ℓ k τ = tyStruct sliceName (tcons (tyRef ℓ k τ) (tcons (tyInt w64) tnil))
 
-abbrev val-local : Ty → Local
+abbrev pub val-local : Ty → Local
 val-local τ = local τ valueLocal
 
 -- the slice in the local i, whose elements are at τ, is passed on by the locals j (its pointer) and k
-abbrev passes : ℕ → ℕ → ℕ → Ty → Body → Body
+abbrev pub passes : ℕ → ℕ → ℕ → Ty → Body → Body
 passes i j k τ rest = seq (assign (place j []) (addrOf (place i (field 0 ∷ deref τ ∷ [])))) (seq (assign (place k []) (aggregate (copy (place j []) ∷ copy (place i (field 1 ∷ [])) ∷ []))) rest)
 
 abbrev pub shape : Name → Fn

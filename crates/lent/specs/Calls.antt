@@ -1,9 +1,9 @@
 -- The five calls on lent memory, by the shelf's own definitions: what each answers, and all that it was lent afterwards. SCOPE 5, 6.
 use Prim.Native.Nat.{ℕ, _+_, _*_, _/_, _%_}
 use mathlib.Core.Bool.{Bool}
-use mathlib.Core.List.{List, [], _∷_}
-use lib.Dec.{eqb}
-use lib.ListN.{length}
+use mathlib.Core.List.{List, [], _∷_, _++_}
+use lib.Dec.{eqb, ltb}
+use lib.ListN.{drop, length, take}
 use Rattle.logic.specs.Choices.{pick}
 use Rattle.logic.specs.Loops.{_&_}
 use Rattle.part.specs.declared.Part.{Part}
@@ -91,8 +91,16 @@ abbrev pub deliveryIn : Reading
 deliveryIn b q = delivers (record { pid = numberAt q 0; bytes = b })
 
 -- ---- a call as it is made: first of all, 14 where the question is not four numbers or the reply not three
-unfoldable pub sizesFit : List ℕ → List ℕ → Bool
-sizesFit q y = eqb (length q) 4 & eqb (length y) 3
+unfoldable pub callFits : List ℕ → List ℕ → Bool
+callFits q y = eqb (length q) 4 & eqb (length y) 3
 
 unfoldable pub called : Reading → LentState → List ℕ → List ℕ → List ℕ → Left
-called f x b q y = pick (sizesFit q y) (lentCall x (f b q) y) (record { number = 14; state = x; reply = y })
+called f x b q y = pick (callFits q y) (lentCall x (f b q) y) (record { number = 14; state = x; reply = y })
+
+-- ---- a call with the records by value: the first n of them are lent, and those behind stay as they were. First of all, 14 where n is
+-- more than a shelf can have
+abbrev pub followedBy : Left → List LentWatch → Left
+followedBy r ws = left (r .number) (r .state .watches ++ ws) (r .state .places) (r .state .area) (r .reply)
+
+unfoldable pub calledFirst : Reading → ℕ → List LentWatch → (l area b q y : List ℕ) → Left
+calledFirst f n ws l area b q y = pick (ltb 16 n) (left 14 ws l area y) (followedBy (called f (lent (take n ws) l area) b q y) (drop n ws))

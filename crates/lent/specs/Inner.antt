@@ -11,7 +11,7 @@ use Rattle.shelf_state.specs.Records.{watchAt}
 use Rattle.shelf_state.specs.declared.records.Shelf.{Shelf}
 use Rattle.shelf_state.specs.declared.records.Watch.{Watch}
 use Rattle.shelf.specs.Answers.{Status, complete, part, unheard}
-use Rattle.lent.specs.Meaning.{blank, clamp, lent, recordOf, rowSize, watchIn, watchesIn}
+use Rattle.lent.specs.Meaning.{blank, clamp, lent, recordOf, rowSize, watchMeant, watchesMeant}
 use Rattle.lent.specs.Changes.{changedAt, compared}
 use Rattle.lent.specs.Calls.{Reading, called, left}
 use Rattle.lent.specs.declared.records.Book.{Book}
@@ -21,14 +21,14 @@ use Rattle.lent.specs.declared.records.LentWatch.{LentWatch}
 
 -- four watches of a list; the sixteen of four fours
 abbrev pub fourAt : List LentWatch → ℕ → ℕ → ℕ → ℕ → Four
-fourAt ws i j k l = record { a = watchIn (getD ws i blank); b = watchIn (getD ws j blank); c = watchIn (getD ws k blank); d = watchIn (getD ws l blank) }
+fourAt ws i j k l = record { a = watchMeant (getD ws i blank); b = watchMeant (getD ws j blank); c = watchMeant (getD ws k blank); d = watchMeant (getD ws l blank) }
 
 abbrev pub sixteen : Four → Four → Four → Four → List Watch
 sixteen p q r t = p .a ∷ p .b ∷ p .c ∷ p .d ∷ q .a ∷ q .b ∷ q .c ∷ q .d ∷ r .a ∷ r .b ∷ r .c ∷ r .d ∷ t .a ∷ t .b ∷ t .c ∷ t .d ∷ []
 
 -- the book of a list
 abbrev pub Gathered : Book → List LentWatch → Type 0
-Gathered b ws = (b .records ≡ length ws) × (b .watches ≡ watchesIn 16 ws)
+Gathered b ws = (b .records ≡ length ws) × (b .watches ≡ watchesMeant 16 ws)
 
 -- the record to write; past the end where none changed
 unfoldable pub endingAt : ℕ → ℕ → Shelf → Shelf → ℕ → Ending

@@ -25,8 +25,8 @@ lent ws l area = record { watches = ws; places = l; area = area }
 abbrev pub isOn : ℕ → Bool
 isOn n = not (eqb n 0)
 
-abbrev pub watchIn : LentWatch → Watch
-watchIn r = record { live = isOn (r .live); key = r .key; quota = r .quota; edition = record { heard = isOn (r .heard); version = r .version; last = r .last } }
+abbrev pub watchMeant : LentWatch → Watch
+watchMeant r = record { live = isOn (r .live); key = r .key; quota = r .quota; edition = record { heard = isOn (r .heard); version = r .version; last = r .last } }
 
 -- as a call writes it
 abbrev pub recordOf : Watch → LentWatch
@@ -36,10 +36,10 @@ abbrev pub blank : LentWatch
 blank = record { live = 0; key = blankKey; quota = 0; heard = 0; version = 0; last = 0 }
 
 -- the first n watches, closed past the list's end
-unfoldable pub watchesIn : ℕ → List LentWatch → List Watch
-watchesIn zero ws = []
-watchesIn (suc n) [] = blankWatch ∷ watchesIn n []
-watchesIn (suc n) (w ∷ ws) = watchIn w ∷ watchesIn n ws
+unfoldable pub watchesMeant : ℕ → List LentWatch → List Watch
+watchesMeant zero ws = []
+watchesMeant (suc n) [] = blankWatch ∷ watchesMeant n []
+watchesMeant (suc n) (w ∷ ws) = watchMeant w ∷ watchesMeant n ws
 
 -- ---- a place: a row of five numbers: used (not 0), watch, number, length, and a time that is not read. Too large a number becomes one
 -- that breaks the shelf's rules
@@ -52,8 +52,8 @@ clamp m x = pick (ltb m x) m x
 abbrev pub numberAt : List ℕ → ℕ → ℕ
 numberAt l i = getD l i 0
 
-abbrev pub rowAt : List ℕ → ℕ → Place
-rowAt l i = record {
+abbrev pub placeMeant : List ℕ → ℕ → Place
+placeMeant l i = record {
   used = isOn (numberAt l (i * rowSize));
   watch = clamp 255 (numberAt l (i * rowSize + 1));
   number = clamp 255 (numberAt l (i * rowSize + 2));
@@ -65,18 +65,18 @@ abbrev pub rowCount : ℕ → ℕ
 rowCount n = pick (eqb (n % rowSize) 0) (n / rowSize) 0
 
 -- the first n rows in a list of places
-unfoldable pub rowsIn : ℕ → List ℕ → List Place → List Place
-rowsIn zero l ps = ps
-rowsIn (suc n) l ps = set (rowsIn n l ps) n (rowAt l n)
+unfoldable pub placesMeant : ℕ → List ℕ → List Place → List Place
+placesMeant zero l ps = ps
+placesMeant (suc n) l ps = set (placesMeant n l ps) n (placeMeant l n)
 
 -- ---- the shelf: more records or places than it can have break its rules by their number
 unfoldable pub shelfIn : ℕ → List Watch → List ℕ → Shelf
 shelfIn n ws l = record {
   watches = ws;
   records = n;
-  places = rowsIn (clamp 64 (rowCount (length l))) l (replicate 64 blankPlace);
+  places = placesMeant (clamp 64 (rowCount (length l))) l (replicate 64 blankPlace);
   count = rowCount (length l);
 }
 
 abbrev pub meaning : LentState → Shelf
-meaning x = shelfIn (length (x .watches)) (watchesIn 16 (x .watches)) (x .places)
+meaning x = shelfIn (length (x .watches)) (watchesMeant 16 (x .watches)) (x .places)

@@ -5,15 +5,15 @@ use crate::records::record_of;
 use crate::rows::at_most;
 use crate::rows::write_row;
 use shelf_state::Edition;
-use shelf_state::Key;
 use shelf_state::Place;
 use shelf_state::Shelf;
 use shelf_state::Watch;
+use shelf_state::inner::asked_of;
+use shelf_state::inner::same_key;
 ghost use mathlib.Core.Path.{_≡_};
 ghost use Prim.Native.Nat.{_<_, _≤_, _+_, _*_};
 ghost use lib.ListN.{length};
 ghost use Rattle.logic.specs.Choices.{pick};
-ghost use Rattle.shelf_state.specs.Records.{asked, sameKey};
 ghost use Rattle.lent.specs.Meaning.{rowSize};
 ghost use Rattle.lent.specs.Changes.{equalBool, equalEdition, equalWatch, equalPlace, changedAt, writeRow, rowsAfter};
 ghost use Rattle.lent.specs.Inner.{endingOf, RowsFit};
@@ -22,18 +22,6 @@ fn equal_bool(a: bool, b: bool) -> bool
     ensures { λ r. ⌜ r ≡ equalBool a b ⌝ }
 {
     if a { b } else { !b }
-}
-
-fn equal_key(a: Key, b: Key) -> bool
-    ensures { λ r. ⌜ r ≡ sameKey (asked a) (asked b) ⌝ }
-{
-    if a.pid != b.pid {
-        return false;
-    }
-    if a.table_id != b.table_id {
-        return false;
-    }
-    a.extension == b.extension
 }
 
 fn equal_edition(a: Edition, b: Edition) -> bool
@@ -54,7 +42,7 @@ fn equal_watch(a: Watch, b: Watch) -> bool
     if !equal_bool(a.live, b.live) {
         return false;
     }
-    if !equal_key(a.key, b.key) {
+    if !same_key(a.key, asked_of(b.key)) {
         return false;
     }
     if a.quota != b.quota {

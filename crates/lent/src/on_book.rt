@@ -1,22 +1,18 @@
-// The five calls on the records by value, for callers that hold no lent list of them; the calls on a lent list stand on these.
+// The cores of the five calls, on the book of a lent list: what each leaves in the other memory, and the one record to write.
 use crate::changes::settle;
 use crate::records::Book;
 use crate::records::Ending;
-use crate::records::watch_in;
 use crate::replies::amount_in;
 use crate::replies::asked_in;
 use crate::replies::broken;
+use crate::replies::call_fits;
 use crate::replies::change_number;
-use crate::replies::sizes_fit;
 use crate::replies::tell_fetched;
 use crate::replies::tell_status;
 use crate::rows::number_at;
 use crate::rows::shelf_in;
 ghost use Rattle.lent.specs.Calls.{openingIn, closingIn, askingIn, fetchingIn, deliveryIn};
-ghost use lib.ListN.{set};
-ghost use mathlib.Core.List.{List};
-ghost use Rattle.lent.specs.Inner.{Ends, Gathered};
-ghost use Rattle.lent.specs.declared.records.LentWatch.{LentWatch};
+ghost use Rattle.lent.specs.Inner.{Ends};
 
 pub fn open(
     b: Book,
@@ -28,7 +24,7 @@ pub fn open(
 ) -> Ending
     ensures { λ r. ⌜ Ends openingIn b (now (places .entry)) (now (area .entry)) (now (section .entry)) (now (question .entry)) (now (reply .entry)) r (now (places .exit)) (now (area .exit)) (now (reply .exit)) ⌝ }
 {
-    if !sizes_fit(question, reply) {
+    if !call_fits(question, reply) {
         return broken(b.records);
     }
     let before = shelf_in(b, places);
@@ -48,7 +44,7 @@ pub fn close(
 ) -> Ending
     ensures { λ r. ⌜ Ends closingIn b (now (places .entry)) (now (area .entry)) (now (section .entry)) (now (question .entry)) (now (reply .entry)) r (now (places .exit)) (now (area .exit)) (now (reply .exit)) ⌝ }
 {
-    if !sizes_fit(question, reply) {
+    if !call_fits(question, reply) {
         return broken(b.records);
     }
     let before = shelf_in(b, places);
@@ -68,7 +64,7 @@ pub fn status(
 ) -> Ending
     ensures { λ r. ⌜ Ends askingIn b (now (places .entry)) (now (area .entry)) (now (section .entry)) (now (question .entry)) (now (reply .entry)) r (now (places .exit)) (now (area .exit)) (now (reply .exit)) ⌝ }
 {
-    if !sizes_fit(question, reply) {
+    if !call_fits(question, reply) {
         return broken(b.records);
     }
     let before = shelf_in(b, places);
@@ -89,7 +85,7 @@ pub fn fetch(
 ) -> Ending
     ensures { λ r. ⌜ Ends fetchingIn b (now (places .entry)) (now (area .entry)) (now (section .entry)) (now (question .entry)) (now (reply .entry)) r (now (places .exit)) (now (area .exit)) (now (reply .exit)) ⌝ }
 {
-    if !sizes_fit(question, reply) {
+    if !call_fits(question, reply) {
         return broken(b.records);
     }
     let before = shelf_in(b, places);
@@ -110,7 +106,7 @@ pub fn deliver(
 ) -> Ending
     ensures { λ r. ⌜ Ends deliveryIn b (now (places .entry)) (now (area .entry)) (now (section .entry)) (now (question .entry)) (now (reply .entry)) r (now (places .exit)) (now (area .exit)) (now (reply .exit)) ⌝ }
 {
-    if !sizes_fit(question, reply) {
+    if !call_fits(question, reply) {
         return broken(b.records);
     }
     let before = shelf_in(b, places);
@@ -118,20 +114,4 @@ pub fn deliver(
     let after = r.shelf;
     let answer = r.answer;
     settle(places, before, after, change_number(answer))
-}
-
-// The book after a call that ended so.
-pub fn after(b: Book, e: Ending) -> Book
-    ensures { λ r. ⌜ ((ws : List LentWatch) → Gathered b ws → Gathered r (set ws (e .at) (e .watch))) ⌝ }
-{
-    let at = e.at;
-    if at >= b.records {
-        return b;
-    }
-    if at >= 16 {
-        return b;
-    }
-    let mut r = b;
-    r.watches[at] = watch_in(e.watch);
-    r
 }

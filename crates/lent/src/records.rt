@@ -3,11 +3,12 @@
 use shelf_state::Edition;
 use shelf_state::Key;
 use shelf_state::Watch;
+use shelf_state::inner::blank_watch;
 use shelf_state::inner::wide;
 ghost use mathlib.Core.Path.{_≡_};
 ghost use lib.ListN.{getD, set};
 ghost use Rattle.logic.specs.Loops.{one};
-ghost use Rattle.lent.specs.Meaning.{blank, isOn, watchIn, recordOf};
+ghost use Rattle.lent.specs.Meaning.{blank, isOn, watchMeant, recordOf};
 ghost use Rattle.lent.specs.Inner.{fourAt, sixteen, Gathered};
 
 // A watch record as it is lent: `live` and `heard` are set where they are not 0.
@@ -34,6 +35,12 @@ pub struct Ending {
     pub watch: LentWatch,
 }
 
+// A call's number, and the records after it.
+pub struct Called {
+    pub number: u32,
+    pub watches: [LentWatch; 16],
+}
+
 pub struct Four {
     pub a: Watch,
     pub b: Watch,
@@ -56,23 +63,11 @@ pub fn flag(b: bool) -> u8
 pub fn blank_record() -> LentWatch
     ensures { λ r. ⌜ r ≡ blank ⌝ }
 {
-    let key = Key {
-        pid: 0,
-        table_id: 0,
-        extension: 0,
-    };
-    LentWatch {
-        live: 0,
-        key,
-        quota: 0,
-        heard: 0,
-        version: 0,
-        last: 0,
-    }
+    record_of(blank_watch())
 }
 
-pub fn watch_in(r: LentWatch) -> Watch
-    ensures { λ w. ⌜ w ≡ watchIn r ⌝ }
+pub fn watch_meant(r: LentWatch) -> Watch
+    ensures { λ w. ⌜ w ≡ watchMeant r ⌝ }
 {
     let edition = Edition {
         heard: is_on(wide(r.heard)),
@@ -120,13 +115,13 @@ pub fn put_or(ws: &mut [LentWatch], i: usize, w: LentWatch)
 }
 
 fn four_of(a: LentWatch, b: LentWatch, c: LentWatch, d: LentWatch) -> Four
-    ensures { λ r. ⌜ (r .a ≡ watchIn a) × (r .b ≡ watchIn b) × (r .c ≡ watchIn c) × (r .d ≡ watchIn d) ⌝ }
+    ensures { λ r. ⌜ (r .a ≡ watchMeant a) × (r .b ≡ watchMeant b) × (r .c ≡ watchMeant c) × (r .d ≡ watchMeant d) ⌝ }
 {
     Four {
-        a: watch_in(a),
-        b: watch_in(b),
-        c: watch_in(c),
-        d: watch_in(d),
+        a: watch_meant(a),
+        b: watch_meant(b),
+        c: watch_meant(c),
+        d: watch_meant(d),
     }
 }
 
@@ -175,4 +170,10 @@ pub fn gather(ws: &[LentWatch]) -> Book
     let r = fours(ws, 8, 9, 10, 11);
     let t = fours(ws, 12, 13, 14, 15);
     book_of(ws.len(), p, q, r, t)
+}
+
+pub fn called_with(number: u32, watches: [LentWatch; 16]) -> Called
+    ensures { λ r. ⌜ (r .number ≡ number) × (r .watches ≡ watches) ⌝ }
+{
+    Called { number, watches }
 }

@@ -15,7 +15,7 @@ ghost use lib.ListN.{length};
 ghost use Rattle.refusal.specs.Numbers.{numberOf};
 ghost use Rattle.shelf.specs.Answers.{changeOutcome, statusOutcome, fetchOutcome};
 ghost use Rattle.lent.specs.Meaning.{blank};
-ghost use Rattle.lent.specs.Calls.{numberIn, statusNumbers, partNumbers, replyAfter, sizesFit, askedIn, amountIn};
+ghost use Rattle.lent.specs.Calls.{numberIn, statusNumbers, partNumbers, replyAfter, callFits, askedIn, amountIn};
 ghost use Rattle.lent.specs.Inner.{SmallStatus, SmallPart};
 
 // A question: PID, table_id, extension, and a quota or a section's number.
@@ -27,8 +27,8 @@ pub const REPLY: usize = 3;
 // What stands where there is no value: a blank is not a nought.
 pub const NO_VALUE: usize = 0xffff_ffff;
 
-pub fn sizes_fit(question: &[u32], reply: &[u32]) -> bool
-    ensures { λ r. ⌜ r ≡ sizesFit (now (question .entry)) (now (reply .entry)) ⌝ }
+pub fn call_fits(question: &[u32], reply: &[u32]) -> bool
+    ensures { λ r. ⌜ r ≡ callFits (now (question .entry)) (now (reply .entry)) ⌝ }
 {
     if question.len() != QUESTION {
         return false;

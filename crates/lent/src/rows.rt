@@ -11,7 +11,7 @@ ghost use mathlib.Core.Path.{_≡_};
 ghost use Prim.Native.Nat.{_<_, _≤_, _+_, _*_};
 ghost use lib.ListN.{length, getD, set, replicate};
 ghost use Rattle.shelf_state.specs.Records.{blankPlace};
-ghost use Rattle.lent.specs.Meaning.{clamp, rowAt, rowCount, rowSize, rowsIn, shelfIn};
+ghost use Rattle.lent.specs.Meaning.{clamp, placeMeant, rowCount, rowSize, placesMeant, shelfIn};
 ghost use Rattle.lent.specs.Changes.{writeRow};
 
 // A row: used, watch, number, length, and the time, which is 0 and is not read.
@@ -56,9 +56,9 @@ pub fn at_most(m: usize, x: usize) -> usize
     if m < x { m } else { x }
 }
 
-fn row_at(l: &[u32], i: usize) -> Place
+fn place_meant(l: &[u32], i: usize) -> Place
     requires { ⌜ (i < 64) × (i * rowSize + rowSize ≤ length (now l)) ⌝ }
-    ensures { λ r. ⌜ r ≡ rowAt (now (l .entry)) i ⌝ }
+    ensures { λ r. ⌜ r ≡ placeMeant (now (l .entry)) i ⌝ }
 {
     let k = i * ROW;
     Place {
@@ -75,15 +75,15 @@ fn row_count(n: usize) -> usize
     if n % ROW == 0 { n / ROW } else { 0 }
 }
 
-fn places_in(l: &[u32], n: usize) -> [Place; 64]
+fn places_meant(l: &[u32], n: usize) -> [Place; 64]
     requires { ⌜ (n ≤ 64) × (n * rowSize ≤ length (now l)) ⌝ }
-    ensures { λ r. ⌜ r ≡ rowsIn n (now (l .entry)) (replicate 64 blankPlace) ⌝ }
+    ensures { λ r. ⌜ r ≡ placesMeant n (now (l .entry)) (replicate 64 blankPlace) ⌝ }
 {
     let blank = blank_place();
     let mut ps = [blank; 64];
     let mut i = 0;
     while i < n {
-        ps[i] = row_at(l, i);
+        ps[i] = place_meant(l, i);
         i += 1;
     }
     ps
@@ -94,7 +94,7 @@ pub fn shelf_in(b: Book, l: &[u32]) -> Shelf
     ensures { λ r. ⌜ r ≡ shelfIn (b .records) (b .watches) (now (l .entry)) ⌝ }
 {
     let count = row_count(l.len());
-    let places = places_in(l, at_most(64, count));
+    let places = places_meant(l, at_most(64, count));
     let watches = b.watches;
     Shelf {
         watches,

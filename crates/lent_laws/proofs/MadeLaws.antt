@@ -29,11 +29,11 @@ use Rattle.shelf_laws.proofs.DeliverLaws.{Delivers, placeNow, storedTo}
 use Rattle.shelf_laws.proofs.OpenLaws.{Opens, openedTo}
 use Rattle.shelf_laws.proofs.ViewLaws.{found}
 use Rattle.lent.proofs.RowLaws.{clamp-le}
-use Rattle.lent.specs.Meaning.{LentState, meaning, numberAt, rowAt, rowCount}
+use Rattle.lent.specs.Meaning.{LentState, meaning, numberAt, placeMeant, rowCount}
 use Rattle.lent_laws.proofs.MeaningLaws.{lent-count, lent-places, lent-records, lent-watches, past-lent, place-lent, rowsRead}
 use Rattle.lent_laws.proofs.TripLaws.{Made, Narrow}
 
-row-narrow : (l : List ℕ) (i : ℕ) → Narrow (rowAt l i)
+row-narrow : (l : List ℕ) (i : ℕ) → Narrow (placeMeant l i)
 row-narrow l i = record { watch-8 = clamp-le 255 (numberAt l (i * 5 + 1)) .0; number-8 = clamp-le 255 (numberAt l (i * 5 + 2)) .0; length-16 = clamp-le 65535 (numberAt l (i * 5 + 3)) .0 }
 
 pick-narrow : (b : Bool) (p : Place) → Narrow p → Narrow (pick b blankPlace p)

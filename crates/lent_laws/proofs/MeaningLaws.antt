@@ -15,7 +15,7 @@ use Rattle.shelf_state.specs.Records.{watchAt, placeAt, blankWatch, blankPlace}
 use Rattle.shelf_state.specs.declared.records.Place.{Place}
 use Rattle.shelf_state.specs.declared.records.Watch.{Watch}
 use Rattle.lent.proofs.RowLaws.{clamp-le, rows-fit}
-use Rattle.lent.specs.Meaning.{LentState, blank, clamp, isOn, meaning, recordOf, rowAt, rowCount, rowsIn, shelfIn, watchIn, watchesIn}
+use Rattle.lent.specs.Meaning.{LentState, blank, clamp, isOn, meaning, recordOf, placeMeant, rowCount, placesMeant, shelfIn, watchMeant, watchesMeant}
 use Rattle.lent.specs.declared.records.LentWatch.{LentWatch}
 
 -- ---- a watch goes to a record and comes back
@@ -23,44 +23,44 @@ pub on-one : (b : Bool) → isOn (one b) ≡ b
 on-one true = refl
 on-one false = refl
 
-pub back : (w : Watch) → watchIn (recordOf w) ≡ w
+pub back : (w : Watch) → watchMeant (recordOf w) ≡ w
 back w = λ z. record { live = on-one (w .live) z; key = w .key; quota = w .quota; edition = record { heard = on-one (w .edition .heard) z; version = w .edition .version; last = w .edition .last } }
 
 -- ---- the watches
-watches-at : (k : ℕ) (ws : List LentWatch) (j : ℕ) → j < k → getD (watchesIn k ws) j blankWatch ≡ watchIn (getD ws j blank)
-unfolding watchesIn
+watches-at : (k : ℕ) (ws : List LentWatch) (j : ℕ) → j < k → getD (watchesMeant k ws) j blankWatch ≡ watchMeant (getD ws j blank)
+unfolding watchesMeant
 watches-at zero ws j h = absurd (not-suc-le-zero h)
 watches-at (suc k) [] zero h = refl
 watches-at (suc k) [] (suc j) h = watches-at k [] j (le-of-suc-le-suc h)
 watches-at (suc k) (w ∷ ws) zero h = refl
 watches-at (suc k) (w ∷ ws) (suc j) h = watches-at k ws j (le-of-suc-le-suc h)
 
-watches-length : (k : ℕ) (ws : List LentWatch) → length (watchesIn k ws) ≡ k
-unfolding watchesIn
+watches-length : (k : ℕ) (ws : List LentWatch) → length (watchesMeant k ws) ≡ k
+unfolding watchesMeant
 watches-length zero ws = refl
 watches-length (suc k) [] = ap suc (watches-length k [])
 watches-length (suc k) (w ∷ ws) = ap suc (watches-length k ws)
 
 -- ---- the rows
-rows-length : (n : ℕ) (l : List ℕ) (d : List Place) → length (rowsIn n l d) ≡ length d
-unfolding rowsIn
+rows-length : (n : ℕ) (l : List ℕ) (d : List Place) → length (placesMeant n l d) ≡ length d
+unfolding placesMeant
 rows-length zero l d = refl
-rows-length (suc n) l d = length-set (rowsIn n l d) n (rowAt l n) ∙ rows-length n l d
+rows-length (suc n) l d = length-set (placesMeant n l d) n (placeMeant l n) ∙ rows-length n l d
 
-rows-at : (n : ℕ) (l : List ℕ) (d : List Place) (i : ℕ) → n ≤ length d → i < n → getD (rowsIn n l d) i blankPlace ≡ rowAt l i
-unfolding rowsIn
+rows-at : (n : ℕ) (l : List ℕ) (d : List Place) (i : ℕ) → n ≤ length d → i < n → getD (placesMeant n l d) i blankPlace ≡ placeMeant l i
+unfolding placesMeant
 rows-at zero l d i g h = absurd (not-suc-le-zero h)
 rows-at (suc n) l d i g h =
-    let m = rowsIn n l d in
+    let m = placesMeant n l d in
     ⊎-elim
-    (λ k. getD-set-other m n i (rowAt l n) blankPlace (λ e. omega (arith, k, e)) ∙ rows-at n l d i (omega arith) k)
-    (λ k. subst (λ (j : ℕ). getD (set m n (rowAt l n)) j blankPlace ≡ rowAt l j) (sym k) (getD-set-same m n (rowAt l n) blankPlace (omega (arith, g, rows-length n l d))))
+    (λ k. getD-set-other m n i (placeMeant l n) blankPlace (λ e. omega (arith, k, e)) ∙ rows-at n l d i (omega arith) k)
+    (λ k. subst (λ (j : ℕ). getD (set m n (placeMeant l n)) j blankPlace ≡ placeMeant l j) (sym k) (getD-set-same m n (placeMeant l n) blankPlace (omega (arith, g, rows-length n l d))))
     (below-suc i n h)
 
-rows-past : (n : ℕ) (l : List ℕ) (d : List Place) (i : ℕ) → n ≤ i → getD (rowsIn n l d) i blankPlace ≡ getD d i blankPlace
-unfolding rowsIn
+rows-past : (n : ℕ) (l : List ℕ) (d : List Place) (i : ℕ) → n ≤ i → getD (placesMeant n l d) i blankPlace ≡ getD d i blankPlace
+unfolding placesMeant
 rows-past zero l d i h = refl
-rows-past (suc n) l d i h = getD-set-other (rowsIn n l d) n i (rowAt l n) blankPlace (λ e. omega (arith, h, e)) ∙ rows-past n l d i (omega arith)
+rows-past (suc n) l d i h = getD-set-other (placesMeant n l d) n i (placeMeant l n) blankPlace (λ e. omega (arith, h, e)) ∙ rows-past n l d i (omega arith)
 
 -- how many rows are read
 abbrev pub rowsRead : List ℕ → ℕ
@@ -71,11 +71,11 @@ row-fits l i h = omega (arith, h, rows-fit (length l))
 
 -- ---- the shelf
 module _ (x : LentState) where
-  pub watch-lent : (i : ℕ) → i < 16 → watchAt (meaning x) i ≡ watchIn (getD (x .watches) i blank)
+  pub watch-lent : (i : ℕ) → i < 16 → watchAt (meaning x) i ≡ watchMeant (getD (x .watches) i blank)
   unfolding shelfIn
   watch-lent i h = watches-at 16 (x .watches) i h
 
-  pub place-lent : (i : ℕ) → i < rowsRead (x .places) → placeAt (meaning x) i ≡ rowAt (x .places) i
+  pub place-lent : (i : ℕ) → i < rowsRead (x .places) → placeAt (meaning x) i ≡ placeMeant (x .places) i
   unfolding shelfIn
   place-lent i h = rows-at (rowsRead (x .places)) (x .places) (replicate 64 blankPlace) i (omega (arith, length-replicate 64 blankPlace, clamp-le 64 (rowCount (length (x .places))) .0)) h
 

@@ -21,7 +21,7 @@ use Rattle.shelf_laws.proofs.CloseLaws.{closing-passed}
 use Rattle.shelf_laws.proofs.DeliverLaws.{delivery-passed}
 use Rattle.shelf_laws.proofs.OpenLaws.{opening-passed}
 use Rattle.shelf_laws.proofs.StayLaws.{done-at, done-is, questions-stay, refused-stays}
-use Rattle.lent.specs.Calls.{called, lentCall, numberIn, partNumbers, replyAfter, sizesFit, statusNumbers}
+use Rattle.lent.specs.Calls.{called, lentCall, numberIn, partNumbers, replyAfter, callFits, statusNumbers}
 use Rattle.lent.specs.Changes.{recordsAfter, rowsAfter}
 use Rattle.lent.specs.Meaning.{LentState, clamp, lent, meaning}
 use Rattle.lent_laws.proofs.MadeLaws.{closed-made, delivered-made, opened-made}
@@ -155,4 +155,4 @@ module _ (x : LentState) (y : List ℕ) where
 
 pub refused-keeps : RefusedKeeps
 unfolding called
-refused-keeps f x b q y h = sized x y (f b q) (sizesFit q y) h
+refused-keeps f x b q y h = sized x y (f b q) (callFits q y) h

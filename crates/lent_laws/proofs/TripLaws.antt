@@ -19,7 +19,7 @@ use Rattle.shelf_state.specs.declared.records.Place.{Place}
 use Rattle.shelf_state.specs.declared.records.Shelf.{Shelf}
 use Rattle.lent.proofs.RowLaws.{written-length}
 use Rattle.lent.specs.Changes.{changedAt, compared, equalPlace, equalWatch, recordPut, recordsAfter, rowPut, rowsAfter, rowsBelow, writeRow}
-use Rattle.lent.specs.Meaning.{LentState, blank, clamp, isOn, lent, meaning, numberAt, recordOf, rowAt, rowCount, watchIn}
+use Rattle.lent.specs.Meaning.{LentState, blank, clamp, isOn, lent, meaning, numberAt, recordOf, placeMeant, rowCount, watchMeant}
 use Rattle.lent.specs.declared.records.LentWatch.{LentWatch}
 use Rattle.lent_laws.proofs.EqualLaws.{from-place, from-watch, place-self, watch-self}
 use Rattle.lent_laws.proofs.MeaningLaws.{back, lent-count, lent-places, lent-records, lent-watches, on-one, past-lent, place-lent, row-fits, rowsRead, watch-lent}
@@ -59,7 +59,7 @@ off-row l n p x h =
     ∙ getD-set-other a (n * 5 + 1) x (p .watch) 0 (λ e. ⊎-elim (λ g. omega (arith, g, e)) (λ g. omega (arith, g, e)) h)
     ∙ getD-set-other l (n * 5) x (one (p .used)) 0 (λ e. ⊎-elim (λ g. omega (arith, g, e)) (λ g. omega (arith, g, e)) h)
 
-rows-eq : (l m : List ℕ) (i : ℕ) → ((x : ℕ) → i * 5 ≤ x → x < i * 5 + 5 → numberAt l x ≡ numberAt m x) → rowAt l i ≡ rowAt m i
+rows-eq : (l m : List ℕ) (i : ℕ) → ((x : ℕ) → i * 5 ≤ x → x < i * 5 + 5 → numberAt l x ≡ numberAt m x) → placeMeant l i ≡ placeMeant m i
 rows-eq l m i h = λ z. record {
   used = isOn (h (i * 5) (omega arith) (omega arith) z);
   watch = clamp 255 (h (i * 5 + 1) (omega arith) (omega arith) z);
@@ -68,7 +68,7 @@ rows-eq l m i h = λ z. record {
 }
 
 -- the row that was written
-own-row : (l : List ℕ) (i : ℕ) (p : Place) → i * 5 + 5 ≤ length l → Narrow p → rowAt (writeRow l i p) i ≡ p
+own-row : (l : List ℕ) (i : ℕ) (p : Place) → i * 5 + 5 ≤ length l → Narrow p → placeMeant (writeRow l i p) i ≡ p
 own-row l i p h n =
     let a = set l (i * 5) (one (p .used)) in
     let b = set a (i * 5 + 1) (p .watch) in
@@ -104,16 +104,16 @@ module _ (s t : Shelf) (l : List ℕ) where
   above (suc n) x h = at-above n (rowsBelow n s t l) (equalPlace (placeAt s n) (placeAt t n)) x (omega arith) (above n x (omega arith))
 
   -- a row below stays as it was when row n is written, and row n is the place
-  below-row : (n : ℕ) (m : List ℕ) (b : Bool) (i : ℕ) → i < n → rowAt (pick b m (writeRow m n (placeAt t n))) i ≡ rowAt m i
+  below-row : (n : ℕ) (m : List ℕ) (b : Bool) (i : ℕ) → i < n → placeMeant (pick b m (writeRow m n (placeAt t n))) i ≡ placeMeant m i
   below-row n m true i h = refl
   below-row n m false i h = rows-eq (writeRow m n (placeAt t n)) m i (λ x g g′. off-row m n (placeAt t n) x (inl (omega (arith, h, g′))))
 
-  this-row : (n : ℕ) (m : List ℕ) (b : Bool) → equalPlace (placeAt s n) (placeAt t n) ≡ b → n * 5 + 5 ≤ length m → Narrow (placeAt t n) → rowAt m n ≡ placeAt s n → rowAt (pick b m (writeRow m n (placeAt t n))) n ≡ placeAt t n
+  this-row : (n : ℕ) (m : List ℕ) (b : Bool) → equalPlace (placeAt s n) (placeAt t n) ≡ b → n * 5 + 5 ≤ length m → Narrow (placeAt t n) → placeMeant m n ≡ placeAt s n → placeMeant (pick b m (writeRow m n (placeAt t n))) n ≡ placeAt t n
   this-row n m true e h w r = r ∙ from-place (placeAt s n) (placeAt t n) e
   this-row n m false e h w r = own-row m n (placeAt t n) h w
 
-  rows-after : (n : ℕ) → ((i : ℕ) → i < n → i * 5 + 5 ≤ length l) → ((i : ℕ) → i < n → rowAt l i ≡ placeAt s i) → ((i : ℕ) → i < n → Narrow (placeAt t i))
-      → (i : ℕ) → i < n → rowAt (rowsBelow n s t l) i ≡ placeAt t i
+  rows-after : (n : ℕ) → ((i : ℕ) → i < n → i * 5 + 5 ≤ length l) → ((i : ℕ) → i < n → placeMeant l i ≡ placeAt s i) → ((i : ℕ) → i < n → Narrow (placeAt t i))
+      → (i : ℕ) → i < n → placeMeant (rowsBelow n s t l) i ≡ placeAt t i
   unfolding rowsBelow rowPut
   rows-after zero f g w i h = absurd (not-suc-le-zero h)
   rows-after (suc n) f g w i h =
@@ -121,7 +121,7 @@ module _ (s t : Shelf) (l : List ℕ) where
       let b = equalPlace (placeAt s n) (placeAt t n) in
       ⊎-elim
       (λ k. below-row n m b i k ∙ rows-after n (λ j q. f j (omega (arith, q))) (λ j q. g j (omega (arith, q))) (λ j q. w j (omega (arith, q))) i k)
-      (λ k. subst (λ (j : ℕ). rowAt (pick b m (writeRow m n (placeAt t n))) j ≡ placeAt t j) (sym k)
+      (λ k. subst (λ (j : ℕ). placeMeant (pick b m (writeRow m n (placeAt t n))) j ≡ placeAt t j) (sym k)
       (this-row n m b refl (omega (arith, f n (omega arith), written-length n s t l)) (w n (omega arith)) (rows-eq m l n (λ x q q′. above n x q) ∙ g n (omega arith))))
       (below-suc i n h)
 
@@ -176,26 +176,26 @@ module _ (x : LentState) (t : Shelf) (j : ℕ) (st : Made x t j) (area : List �
       (λ e. st .only i (eqb-false i j e))
       (both (eqb i j))
 
-  after-some : f < m → not (equalWatch (watchAt s f) (watchAt t f)) ≡ true → (i : ℕ) → i < 16 → watchIn (getD ws′ i blank) ≡ watchAt t i
+  after-some : f < m → not (equalWatch (watchAt s f) (watchAt t f)) ≡ true → (i : ℕ) → i < 16 → watchMeant (getD ws′ i blank) ≡ watchAt t i
   after-some h p i g =
       let w = recordOf (watchAt t f) in
-      ap (λ (v : List LentWatch). watchIn (getD v i blank)) (put-some h)
+      ap (λ (v : List LentWatch). watchMeant (getD v i blank)) (put-some h)
       ∙ ⊎-elim
       (λ e. let q : i ≡ f = eqb-true i f e in
-      subst (λ (k : ℕ). watchIn (getD (set ws f w) k blank) ≡ watchAt t k) (sym q) (ap watchIn (getD-set-same ws f w blank (omega (arith, h, m-is))) ∙ back (watchAt t f)))
-      (λ e. let ne = eqb-false i f e in ap watchIn (getD-set-other ws f i w blank ne) ∙ sym (watch-lent x i g) ∙ sym (unchanged p i ne))
+      subst (λ (k : ℕ). watchMeant (getD (set ws f w) k blank) ≡ watchAt t k) (sym q) (ap watchMeant (getD-set-same ws f w blank (omega (arith, h, m-is))) ∙ back (watchAt t f)))
+      (λ e. let ne = eqb-false i f e in ap watchMeant (getD-set-other ws f i w blank ne) ∙ sym (watch-lent x i g) ∙ sym (unchanged p i ne))
       (both (eqb i f))
 
-  after-none : f ≡ m → ((k : ℕ) → k < m → not (equalWatch (watchAt s k) (watchAt t k)) ≡ false) → (i : ℕ) → i < 16 → watchIn (getD ws′ i blank) ≡ watchAt t i
+  after-none : f ≡ m → ((k : ℕ) → k < m → not (equalWatch (watchAt s k) (watchAt t k)) ≡ false) → (i : ℕ) → i < 16 → watchMeant (getD ws′ i blank) ≡ watchAt t i
   after-none h p i g =
-      ap (λ (v : List LentWatch). watchIn (getD v i blank)) (put-none (omega (arith, h)))
+      ap (λ (v : List LentWatch). watchMeant (getD v i blank)) (put-none (omega (arith, h)))
       ∙ sym (watch-lent x i g)
       ∙ ⊎-elim
       (λ e. let q : i ≡ j = eqb-true i j e in from-watch (watchAt s i) (watchAt t i) (not-false _ (p i (omega (arith, q, st .below, m-is)))))
       (λ e. sym (st .only i (eqb-false i j e)))
       (both (eqb i j))
 
-  after-watch : (i : ℕ) → i < 16 → watchIn (getD ws′ i blank) ≡ watchAt t i
+  after-watch : (i : ℕ) → i < 16 → watchMeant (getD ws′ i blank) ≡ watchAt t i
   after-watch i g = ⊎-elim (λ w. after-some (w .0) (w .1) i g) (λ w. after-none (w .0) (w .1) i g) (first-split (λ i. not (equalWatch (watchAt s i) (watchAt t i))) m)
 
   pick-length : (b : Bool) (v : List LentWatch) → length v ≡ length ws → length (pick b v ws) ≡ length ws
@@ -218,8 +218,8 @@ module _ (x : LentState) (t : Shelf) (j : ℕ) (st : Made x t j) (area : List �
   reads : clamp 64 (s .count) ≡ rowsRead l
   reads = ap (clamp 64) (lent-count x)
 
-  after-place : (i : ℕ) → i < rowsRead l → rowAt l′ i ≡ placeAt t i
-  after-place i h = ap (λ (n : ℕ). rowAt (rowsBelow n s t l) i) reads ∙ rows-after s t l (rowsRead l) (row-fits l) (λ k g. sym (place-lent x k g)) (st .narrow) i h
+  after-place : (i : ℕ) → i < rowsRead l → placeMeant l′ i ≡ placeAt t i
+  after-place i h = ap (λ (n : ℕ). placeMeant (rowsBelow n s t l) i) reads ∙ rows-after s t l (rowsRead l) (row-fits l) (λ k g. sym (place-lent x k g)) (st .narrow) i h
 
   abbrev x′ : LentState
   x′ = lent ws′ l′ area

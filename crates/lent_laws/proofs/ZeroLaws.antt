@@ -11,7 +11,7 @@ use lib.Seq.{ext-getD}
 use Rattle.logic.proofs.LoopLaws.{both}
 use Rattle.shelf_state.proofs.RecordLaws.{replicate-at}
 use Rattle.shelf_state.specs.Records.{blankPlace, blankWatch, emptyShelf, placeAt, watchAt}
-use Rattle.lent.specs.Meaning.{LentState, blank, clamp, isOn, lent, meaning, rowAt, rowCount, watchIn}
+use Rattle.lent.specs.Meaning.{LentState, blank, clamp, isOn, lent, meaning, placeMeant, rowCount, watchMeant}
 use Rattle.lent_laws.proofs.MeaningLaws.{lent-count, lent-places, lent-records, lent-watches, past-lent, place-lent, rowsRead, watch-lent}
 use Rattle.lent_laws.specs.Laws.{ZeroEmpty}
 
@@ -22,7 +22,7 @@ module _ (c n : ℕ) (area : List ℕ) where
   abbrev x : LentState
   x = lent (replicate n blank) l area
 
-  zero-row : (i : ℕ) → rowAt l i ≡ blankPlace
+  zero-row : (i : ℕ) → placeMeant l i ≡ blankPlace
   zero-row i = λ z. record {
     used = isOn (replicate-at (c * 5) (i * 5) 0 z);
     watch = clamp 255 (replicate-at (c * 5) (i * 5 + 1) 0 z);
@@ -34,7 +34,7 @@ module _ (c n : ℕ) (area : List ℕ) where
   zero-place i = ⊎-elim (λ e. place-lent x i (ltb-true i (rowsRead l) e) ∙ zero-row i) (λ e. past-lent x i (ltb-false i (rowsRead l) e)) (both (ltb i (rowsRead l)))
 
   zero-watch : (i : ℕ) → i < 16 → watchAt (meaning x) i ≡ blankWatch
-  zero-watch i h = watch-lent x i h ∙ ap watchIn (replicate-at n i blank)
+  zero-watch i h = watch-lent x i h ∙ ap watchMeant (replicate-at n i blank)
 
   zero-count : rowCount (length l) ≡ c
   zero-count =

@@ -5,17 +5,19 @@ use crate::records::Key;
 use crate::records::Place;
 use crate::records::Shelf;
 use crate::records::Watch;
+pub use crate::records::asked_of;
 use crate::records::holds_for;
 use crate::records::holds_section;
 use crate::records::is_of;
+pub use crate::records::key_of;
+pub use crate::records::same_key;
 pub use crate::records::wide;
+pub use crate::records::wide_word;
 ghost use mathlib.Core.Path.{_≡_};
 ghost use Prim.Native.Nat.{_≤_, _<_};
 ghost use Rattle.shelf_state.specs.Records.{noEdition, blankWatch, blankPlace, findWatch, firstClosed, findPlace, firstFree, setWatch, release, dropped, emptyShelf};
 ghost use Rattle.shelf_state.specs.Rules.{quotaOf, heldIn};
 ghost use Rattle.shelf_state.specs.Tests.{roomIn};
-pub use crate::records::key_of;
-pub use crate::records::wide_word;
 
 // The first open watch below n with the key, or n.
 pub fn find_watch(ws: [Watch; 16], n: usize, a: Asked) -> usize

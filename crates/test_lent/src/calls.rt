@@ -1,14 +1,13 @@
 // One call in lent memory, told by its name and its answer. The bytes have its arguments.
 use bytes_at::byte;
 use bytes_at::word;
-use lent::Book;
-use lent::Ending;
+use lent::Called;
+use lent::LentWatch;
 use lent::ROW;
-use lent::on_book;
-use lent::shelf_in;
+use lent::blank_record;
+use lent::by_value;
 use part::part_of;
 use shelf_state::Shelf;
-use shelf_state::inner::blank_watch;
 use shelf_state::sizes_in_range;
 use test_lines::Vector;
 use test_lines::digest::of_bytes;
@@ -17,20 +16,21 @@ use test_lines::say;
 use test_lines::told;
 ghost use Prim.Native.Nat.{_≤_};
 
-// The records, and how many rows are in use.
+// The records, how many of them are lent, and how many rows.
 pub struct Held {
-    pub book: Book,
+    pub watches: [LentWatch; 16],
+    pub records: usize,
     pub count: usize,
 }
 
 // Closed records.
 pub fn blank(count: usize, records: usize) -> Held {
-    let w = blank_watch();
-    let book = Book {
-        records,
+    let w = blank_record();
+    Held {
         watches: [w; 16],
-    };
-    Held { book, count }
+        records,
+        count,
+    }
 }
 
 // How many numbers are in use of so many.
@@ -47,8 +47,9 @@ fn in_use(count: usize, numbers: usize) -> usize
 }
 
 pub fn shelf_of(h: Held, rows: &[u32]) -> Shelf {
+    let ws = h.watches;
     let n = in_use(h.count, rows.len());
-    shelf_in(h.book, &rows[..n])
+    by_value::shelf_of(ws, h.records, &rows[..n])
 }
 
 fn narrow(x: usize) -> u32 {
@@ -105,49 +106,49 @@ fn show_part(k: u32, reply: &[u32; 3], area: &[u8]) {
     number(of_bytes(part_of(area, start, length)));
 }
 
-fn opens(b: Book, rows: &mut [u32], area: &mut [u8], s: &[u8]) -> Ending {
+fn opens(ws: [LentWatch; 16], n: usize, rows: &mut [u32], area: &mut [u8], s: &[u8]) -> Called {
     let q = question(s, byte(s, 5));
     let mut reply = [0u32; 3];
-    let e = on_book::open(b, rows, area, b"", &q, &mut reply);
+    let c = by_value::open(ws, n, rows, area, b"", &q, &mut reply);
     say(b" open");
-    show_change(e.number);
-    e
+    show_change(c.number);
+    c
 }
 
-fn closes(b: Book, rows: &mut [u32], area: &mut [u8], s: &[u8]) -> Ending {
+fn closes(ws: [LentWatch; 16], n: usize, rows: &mut [u32], area: &mut [u8], s: &[u8]) -> Called {
     let q = question(s, 0);
     let mut reply = [0u32; 3];
-    let e = on_book::close(b, rows, area, b"", &q, &mut reply);
+    let c = by_value::close(ws, n, rows, area, b"", &q, &mut reply);
     say(b" close");
-    show_change(e.number);
-    e
+    show_change(c.number);
+    c
 }
 
-fn tells(b: Book, rows: &mut [u32], area: &mut [u8], s: &[u8]) -> Ending {
+fn tells(ws: [LentWatch; 16], n: usize, rows: &mut [u32], area: &mut [u8], s: &[u8]) -> Called {
     let q = question(s, 0);
     let mut reply = [0u32; 3];
-    let e = on_book::status(b, rows, area, b"", &q, &mut reply);
+    let c = by_value::status(ws, n, rows, area, b"", &q, &mut reply);
     say(b" status");
-    show_status(e.number, &reply);
-    e
+    show_status(c.number, &reply);
+    c
 }
 
-fn fetches(b: Book, rows: &mut [u32], area: &mut [u8], s: &[u8]) -> Ending {
+fn fetches(ws: [LentWatch; 16], n: usize, rows: &mut [u32], area: &mut [u8], s: &[u8]) -> Called {
     let q = question(s, word(s, 5));
     let mut reply = [0u32; 3];
-    let e = on_book::fetch(b, rows, area, b"", &q, &mut reply);
+    let c = by_value::fetch(ws, n, rows, area, b"", &q, &mut reply);
     say(b" fetch");
-    show_part(e.number, &reply, area);
-    e
+    show_part(c.number, &reply, area);
+    c
 }
 
-fn delivers(b: Book, rows: &mut [u32], area: &mut [u8], s: &[u8]) -> Ending {
+fn delivers(ws: [LentWatch; 16], n: usize, rows: &mut [u32], area: &mut [u8], s: &[u8]) -> Called {
     let q = question(s, 0);
     let mut reply = [0u32; 3];
-    let e = on_book::deliver(b, rows, area, part_of(s, 2, s.len()), &q, &mut reply);
+    let c = by_value::deliver(ws, n, rows, area, part_of(s, 2, s.len()), &q, &mut reply);
     say(b" deliver");
-    show_change(e.number);
-    e
+    show_change(c.number);
+    c
 }
 
 fn clear(rows: &mut [u32]) {
@@ -176,22 +177,31 @@ fn letter(op: usize) -> u8 {
     (op % 256) as u8
 }
 
-fn act(op: u8, b: Book, rows: &mut [u32], area: &mut [u8], s: &[u8]) -> Ending {
+fn act(
+    op: u8,
+    ws: [LentWatch; 16],
+    n: usize,
+    rows: &mut [u32],
+    area: &mut [u8],
+    s: &[u8],
+) -> Called {
     match op {
-        b'c' => closes(b, rows, area, s),
-        b'd' => delivers(b, rows, area, s),
-        b'f' => fetches(b, rows, area, s),
-        b'o' => opens(b, rows, area, s),
-        _ => tells(b, rows, area, s),
+        b'c' => closes(ws, n, rows, area, s),
+        b'd' => delivers(ws, n, rows, area, s),
+        b'f' => fetches(ws, n, rows, area, s),
+        b'o' => opens(ws, n, rows, area, s),
+        _ => tells(ws, n, rows, area, s),
     }
 }
 
 fn call(op: u8, h: Held, rows: &mut [u32], area: &mut [u8], s: &[u8]) -> Held {
+    let ws = h.watches;
     let n = in_use(h.count, rows.len());
-    let e = act(op, h.book, &mut rows[..n], area, s);
-    let book = on_book::after(h.book, e);
+    let c = act(op, ws, h.records, &mut rows[..n], area, s);
+    let watches = c.watches;
     Held {
-        book,
+        watches,
+        records: h.records,
         count: h.count,
     }
 }

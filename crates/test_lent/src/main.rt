@@ -1,5 +1,4 @@
-// Runs the histories of tests/shelf_runs.py in lent memory, which goes from call to call: a book of watch records, rows of numbers and an
-// area. The lines are those of test_shelf.
+// Runs the histories of tests/shelf_runs.py in lent memory, which goes from call to call: watch records, rows of numbers and an area. The lines are those of test_shelf.
 mod calls;
 
 use calls::Held;

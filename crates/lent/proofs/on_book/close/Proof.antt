@@ -8,8 +8,8 @@ use Rattle.lent.proofs.RowLaws.{rows-fit}
 use Rattle.lent.proofs.on_book.close.Statement.{statement}
 use Rattle.lent.proofs.on_book.close.Tie as tie
 
-sizes-fit-requires : tie.Need-sizes-fit-requires
-sizes-fit-requires c κs = search needs
+call-fits-requires : tie.Need-call-fits-requires
+call-fits-requires c κs = search needs
 
 broken-requires : tie.Need-broken-requires
 broken-requires c κs = search needs
@@ -18,13 +18,13 @@ same-length : tie.Need-same-length
 same-length c = search needs
 
 returns : tie.Need-returns
-returns c = broken-said _ _ _ _ _ _ _ _ (sym (c .before .before .sizes-fit .ensures) ∙ not-true _ (c .before .if1 .taken)) (c .broken .ensures)
+returns c = broken-said _ _ _ _ _ _ _ _ (sym (c .before .before .call-fits .ensures) ∙ not-true _ (c .before .if1 .taken)) (c .broken .ensures)
 
 shelf-in-requires : tie.Need-shelf-in-requires
 shelf-in-requires c κs = search needs
 
 asked-in-requires : tie.Need-asked-in-requires
-asked-in-requires c κs = question-is _ _ (sym (c .before .before .before .before .sizes-fit .ensures) ∙ not-false _ (c .before .before .before .if1 .left))
+asked-in-requires c κs = question-is _ _ (sym (c .before .before .before .before .call-fits .ensures) ∙ not-false _ (c .before .before .before .if1 .left))
 
 close-requires : tie.Need-close-requires
 close-requires c κs = search needs
@@ -46,13 +46,13 @@ same-length-4 : tie.Need-same-length-4
 same-length-4 c = search needs
 
 returns-2 : tie.Need-returns-2
-returns-2 c = closing-said _ _ _ _ _ _ _ _ _ _ _ (sym (c .before .before .before .before .before .before .before .before .before .before .before .before .sizes-fit .ensures) ∙ not-false _ (c .before .before .before .before .before .before .before .before .before .before .before .if1 .left)) (c .before .before .before .before .before .before .before .before .before .shelf-in .ensures) (c .before .before .settle .ensures) _ (c .before .before .before .change-number .ensures) _ (c .before .before .before .before .before .before .before .asked-in .ensures) (c .before .before .before .before .before .before .close .ensures)
+returns-2 c = closing-said _ _ _ _ _ _ _ _ _ _ _ (sym (c .before .before .before .before .before .before .before .before .before .before .before .before .call-fits .ensures) ∙ not-false _ (c .before .before .before .before .before .before .before .before .before .before .before .if1 .left)) (c .before .before .before .before .before .before .before .before .before .shelf-in .ensures) (c .before .before .settle .ensures) _ (c .before .before .before .change-number .ensures) _ (c .before .before .before .before .before .before .before .asked-in .ensures) (c .before .before .before .before .before .before .close .ensures)
 
 pub close-spec : {M : Type 1} → statement M
 close-spec =
     tie.close
     (tie.spec
-    sizes-fit-requires
+    call-fits-requires
     broken-requires
     same-length
     returns

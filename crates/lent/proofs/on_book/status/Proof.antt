@@ -12,8 +12,8 @@ use Rattle.lent.proofs.RowLaws.{rows-fit}
 use Rattle.lent.proofs.on_book.status.Statement.{statement}
 use Rattle.lent.proofs.on_book.status.Tie as tie
 
-sizes-fit-requires : tie.Need-sizes-fit-requires
-sizes-fit-requires c κs = search needs
+call-fits-requires : tie.Need-call-fits-requires
+call-fits-requires c κs = search needs
 
 broken-requires : tie.Need-broken-requires
 broken-requires c κs = search needs
@@ -22,19 +22,19 @@ same-length : tie.Need-same-length
 same-length c = search needs
 
 returns : tie.Need-returns
-returns c = broken-said _ _ _ _ _ _ _ _ (sym (c .before .before .sizes-fit .ensures) ∙ not-true _ (c .before .if1 .taken)) (c .broken .ensures)
+returns c = broken-said _ _ _ _ _ _ _ _ (sym (c .before .before .call-fits .ensures) ∙ not-true _ (c .before .if1 .taken)) (c .broken .ensures)
 
 shelf-in-requires : tie.Need-shelf-in-requires
 shelf-in-requires c κs = search needs
 
 asked-in-requires : tie.Need-asked-in-requires
-asked-in-requires c κs = question-is _ _ (sym (c .before .before .before .before .sizes-fit .ensures) ∙ not-false _ (c .before .before .before .if1 .left))
+asked-in-requires c κs = question-is _ _ (sym (c .before .before .before .before .call-fits .ensures) ∙ not-false _ (c .before .before .before .if1 .left))
 
 status-requires : tie.Need-status-requires
 status-requires c κs = search needs
 
 tell-status-requires : tie.Need-tell-status-requires
-tell-status-requires c κs = (reply-is _ _ (sym (c .before .before .before .before .before .before .before .before .sizes-fit .ensures) ∙ not-false _ (c .before .before .before .before .before .before .before .if1 .left)), subst SmallStatus (sym (ap (λ (r : After Status). r .outcome) (c .before .before .status .ensures))) (status-small _ _ _))
+tell-status-requires c κs = (reply-is _ _ (sym (c .before .before .before .before .before .before .before .before .call-fits .ensures) ∙ not-false _ (c .before .before .before .before .before .before .before .if1 .left)), subst SmallStatus (sym (ap (λ (r : After Status). r .outcome) (c .before .before .status .ensures))) (status-small _ _ _))
 
 settle-requires : tie.Need-settle-requires
 unfolding shelfIn
@@ -50,13 +50,13 @@ same-length-4 : tie.Need-same-length-4
 same-length-4 c = search needs
 
 returns-2 : tie.Need-returns-2
-returns-2 c = asking-said _ _ _ _ _ _ _ _ _ _ _ (sym (c .before .before .before .before .before .before .before .before .before .before .before .before .before .before .before .sizes-fit .ensures) ∙ not-false _ (c .before .before .before .before .before .before .before .before .before .before .before .before .before .before .if1 .left)) (c .before .before .before .before .before .before .before .before .before .before .before .before .shelf-in .ensures) (c .before .before .settle .ensures) _ _ _ (c .before .before .before .before .before .before .tell-status .ensures) (c .before .before .before .before .before .before .before .before .before .before .asked-in .ensures) (c .before .before .before .before .before .before .before .before .before .status .ensures)
+returns-2 c = asking-said _ _ _ _ _ _ _ _ _ _ _ (sym (c .before .before .before .before .before .before .before .before .before .before .before .before .before .before .before .call-fits .ensures) ∙ not-false _ (c .before .before .before .before .before .before .before .before .before .before .before .before .before .before .if1 .left)) (c .before .before .before .before .before .before .before .before .before .before .before .before .shelf-in .ensures) (c .before .before .settle .ensures) _ _ _ (c .before .before .before .before .before .before .tell-status .ensures) (c .before .before .before .before .before .before .before .before .before .before .asked-in .ensures) (c .before .before .before .before .before .before .before .before .before .status .ensures)
 
 pub status-spec : {M : Type 1} → statement M
 status-spec =
     tie.close
     (tie.spec
-    sizes-fit-requires
+    call-fits-requires
     broken-requires
     same-length
     returns

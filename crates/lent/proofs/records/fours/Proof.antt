@@ -36,7 +36,7 @@ use denote.Triple.Clauses.{ensured, lasts}
 use denote.Exit.{yes}
 use Rattle.lent.specs.declared.records.LentWatch.{LentWatch}
 use Rattle.lent.specs.declared.records.Four.{Four}
-use Rattle.lent.specs.Meaning.{blank, watchIn}
+use Rattle.lent.specs.Meaning.{blank, watchMeant}
 use Rattle.lent.specs.Inner.{fourAt}
 use Rattle.lent.proofs.Element.{R, makes, lawful}
 use Rattle.lent.proofs.records.Four as F
@@ -61,7 +61,7 @@ abbrev Fr : RattleType
 Fr = F.the-row
 
 abbrev Made : LentWatch → LentWatch → LentWatch → LentWatch → Four → Type 0
-Made a b c d r = (r .a ≡ watchIn a) × (r .b ≡ watchIn b) × (r .c ≡ watchIn c) × (r .d ≡ watchIn d)
+Made a b c d r = (r .a ≡ watchMeant a) × (r .b ≡ watchMeant b) × (r .c ≡ watchMeant c) × (r .d ≡ watchMeant d)
 
 module _ {M : Type 1} (𝓤 : URA M) (H : Heap 𝓤) (A : Atoms 𝓤) (mem : Memory → SProp 𝓤) (run : Routine → Fun 𝓤) where
   abbrev Or : Contract 𝓤
@@ -159,7 +159,7 @@ module _ {M : Type 1} (𝓤 : URA M) (H : Heap 𝓤) (A : Atoms 𝓤) (W : Given
         peeks ! Fr (Is Fr) (shows 𝓤 H A Fr) r (v ∷ []) (λ is. land ! (from ! (stop !)) (init ! 21 refl (LL.lawful F.the-type F′.the-laws 𝓤 H A W .typed r _ is .0)) $ drop ! $
         returns ! (look ! 20 refl) $ forget ! 2 refl $ forget ! 4 refl $ forget ! 6 refl $ forget ! 8 refl $ forget ! 10 refl $ forget ! 12 refl $ forget ! 14 refl $ forget ! 16 refl $ forget ! 18 refl $ forget ! 20 refl $
         move ! (20 ∷ 21 ∷ []) $ free1 ! $ move ! (18 ∷ 19 ∷ []) $ free1 ! $ move ! (16 ∷ 17 ∷ []) $ free1 ! $ move ! (14 ∷ 15 ∷ []) $ free1 ! $ move ! (12 ∷ 13 ∷ []) $ free1 ! $ move ! (10 ∷ 11 ∷ []) $ free1 ! $ move ! (8 ∷ 9 ∷ []) $ free1 ! $ move ! (6 ∷ 7 ∷ []) $ free1 ! $ move ! (4 ∷ 5 ∷ []) $ free1 ! $ move ! (2 ∷ 3 ∷ []) $ free1 ! $ free0 ! $
-        by ! (exits r v (λ z. record { a = (e .0 ∙ ap watchIn ea) z; b = (e .1 ∙ ap watchIn eb) z; c = (e .2 ∙ ap watchIn ec) z; d = (e .3 ∙ ap watchIn ed) z }) is)))))))))))))))))))))))))))))))
+        by ! (exits r v (λ z. record { a = (e .0 ∙ ap watchMeant ea) z; b = (e .1 ∙ ap watchMeant eb) z; c = (e .2 ∙ ap watchMeant ec) z; d = (e .3 ∙ ap watchMeant ed) z }) is)))))))))))))))))))))))))))))))
 
 module _ {M : Type 1} (𝓤 : URA M) (H : Heap 𝓤) (A : Atoms 𝓤) (W : Given 𝓤 H A) (mem : Memory → SProp 𝓤) (run : Routine → Fun 𝓤) (𝓣 : Tables 𝓤 H) (known-or : Triple 𝓤 (𝓣 .C #or) (Or 𝓤 H A mem run)) (known-mk : Triple 𝓤 (𝓣 .C #mk) (Mk 𝓤 H A mem run)) where
   walks : Walks 𝓤 H A f.ended stayed (WpFn 𝓤 H (𝓣 .C) (𝓣 .Λ) code.function) (f.clauses 𝓤 H A mem run)

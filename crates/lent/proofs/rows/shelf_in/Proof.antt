@@ -11,12 +11,12 @@ row-count-requires c κs = search needs
 at-most-requires : tie.Need-at-most-requires
 at-most-requires c κs = search needs
 
-places-in-requires : tie.Need-places-in-requires
-places-in-requires c κs = (c .at-most .ensures .1, rw (c .at-most .ensures .0, c .before .row-count .ensures) (rows-fit _))
+places-meant-requires : tie.Need-places-meant-requires
+places-meant-requires c κs = (c .at-most .ensures .1, rw (c .at-most .ensures .0, c .before .row-count .ensures) (rows-fit _))
 
 returns : tie.Need-returns
 unfolding shelfIn
-returns c = rw (c .before .places-in .ensures, c .before .before .at-most .ensures .0, c .before .before .before .row-count .ensures)
+returns c = rw (c .before .places-meant .ensures, c .before .before .at-most .ensures .0, c .before .before .before .row-count .ensures)
 
 pub shelf-in-spec : {M : Type 1} → statement M
-shelf-in-spec = tie.close (tie.spec row-count-requires at-most-requires places-in-requires returns)
+shelf-in-spec = tie.close (tie.spec row-count-requires at-most-requires places-meant-requires returns)

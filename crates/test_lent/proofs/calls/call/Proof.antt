@@ -17,9 +17,6 @@ slice-aggregate-act c = sym (length-take-le _ _ (c .before .in-use .ensures))
 act-requires : tie.Need-act-requires
 act-requires c κs = search needs
 
-after-requires : tie.Need-after-requires
-after-requires c κs = search needs
-
 same-length : tie.Need-same-length
 same-length c = search needs
 
@@ -37,7 +34,6 @@ call-spec =
     slice-relend-prefix-act
     slice-aggregate-act
     act-requires
-    after-requires
     same-length
     same-length-2
     returns)

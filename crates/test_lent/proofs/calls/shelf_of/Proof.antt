@@ -8,15 +8,15 @@ use Rattle.test_lent.proofs.calls.shelf_of.Tie as tie
 in-use-requires : tie.Need-in-use-requires
 in-use-requires c κs = search needs
 
-slice-aggregate-shelf-in : tie.Need-slice-aggregate-shelf-in
-slice-aggregate-shelf-in c = sym (length-take-le _ _ (c .before .in-use .ensures))
+slice-aggregate-shelf-of : tie.Need-slice-aggregate-shelf-of
+slice-aggregate-shelf-of c = sym (length-take-le _ _ (c .before .in-use .ensures))
 
-shelf-in-requires : tie.Need-shelf-in-requires
-shelf-in-requires c κs = search needs
+shelf-of-requires : tie.Need-shelf-of-requires
+shelf-of-requires c κs = search needs
 
 returns : tie.Need-returns
 returns c = search needs
 
 pub shelf-of-spec : {M : Type 1} → statement M
 shelf-of-spec =
-    tie.close (tie.spec in-use-requires slice-aggregate-shelf-in shelf-in-requires returns)
+    tie.close (tie.spec in-use-requires slice-aggregate-shelf-of shelf-of-requires returns)

@@ -1,7 +1,7 @@
--- `row_at` meets its contract.
+-- `place_meant` meets its contract.
 use borrow.Author.Needs.{needs}
-use Rattle.lent.proofs.rows.row_at.Statement.{statement}
-use Rattle.lent.proofs.rows.row_at.Tie as tie
+use Rattle.lent.proofs.rows.place_meant.Statement.{statement}
+use Rattle.lent.proofs.rows.place_meant.Tie as tie
 
 mul-k : tie.Need-mul-k
 mul-k c = search needs
@@ -42,8 +42,8 @@ word-of-requires c κs = search needs
 returns : tie.Need-returns
 returns c = rw (c .before .before .before .before .before .before .is-on .ensures, c .before .before .before .before .before .before .before .number-at .ensures .0, c .before .before .before .before .byte-of .ensures, c .before .before .before .before .before .number-at2 .ensures .0, c .before .before .byte-of2 .ensures, c .before .before .before .number-at3 .ensures .0, c .word-of .ensures, c .before .number-at4 .ensures .0)
 
-pub row-at-spec : {M : Type 1} → statement M
-row-at-spec =
+pub place-meant-spec : {M : Type 1} → statement M
+place-meant-spec =
     tie.close
     (tie.spec
     mul-k
