@@ -6,7 +6,7 @@ reader must agree. The high four bits of an op are the table's (ORDER), and its 
   1  the table's own fields
   2  entry a: an event, a table, a channel, a dimension
   3  the rows of all entries, in a lent list of a numbers that are 7 before; of an RRT instead
-     value b of dimension a
+     value b of dimension a, and by 4 the rows of all dimensions, by 5 those of all values
   4  the rating of event a for region b and dimension c
   5  descriptor b of event a
   6  the advisory text of event a for region b
@@ -21,7 +21,9 @@ from sections import EIT, ETT, MGT, RRT, TVCT, Refused, section, spoiled
 from tables import ADVISORY, advisory_text, entry, first_advisory, read, read_descriptors
 
 ORDER = (EIT, ETT, MGT, TVCT, RRT)  # by the high four bits of an op
-ASKED = {EIT: (1, 2, 3, 4, 5, 6), ETT: (1,), MGT: (1, 2, 3), TVCT: (1, 2, 3), RRT: (1, 2, 3)}
+ASKED = {EIT: (1, 2, 3, 4, 5, 6), ETT: (1,), MGT: (1, 2, 3), TVCT: (1, 2, 3),
+         RRT: (1, 2, 3, 4, 5)}
+ROWS = {(EIT, 3), (MGT, 3), (TVCT, 3), (RRT, 4), (RRT, 5)}  # what is answered in a lent list
 FAR = 2**64 - 1
 
 
@@ -40,12 +42,21 @@ def event_answer(s, event):
     return "%s %s %s" % (spaced(event[:4]), title, spaced(event[6:]))
 
 
-def rows_answer(entries, lent):
-    numbers = sum(entries, [])
+def rows_of(kind, asked, entries):
+    """The rows of all entries; of an RRT those of its dimensions or of their values."""
+    if kind != RRT:
+        return entries
+    if asked == 4:
+        return [one[:4] for one in entries]
+    return [[i, j, *texts] for i, one in enumerate(entries) for j, texts in enumerate(one[4])]
+
+
+def rows_answer(rows, lent):
+    numbers = sum(rows, [])
     if len(lent) < len(numbers):
         raise Refused(12)
     lent[:len(numbers)] = numbers
-    return "rows %d" % len(entries)
+    return "rows %d" % len(rows)
 
 
 def rating_answer(regions, region, dimension):
@@ -63,8 +74,8 @@ def answer(op, a, b, c, s, lent):
     fields, entries = read(s, kind)
     if asked == 1:
         return spaced(fields)
-    if asked == 3 and kind != RRT:
-        return rows_answer(entries, lent)
+    if (kind, asked) in ROWS:
+        return rows_answer(rows_of(kind, asked, entries), lent)
     one = entry(entries, a)
     if kind == RRT:
         return spaced(one[:4] if asked == 2 else entry(one[4], b))
@@ -85,7 +96,7 @@ vectors = []  # (op, numbers, bytes, answer)
 def add(kind, asked, s, a=0, b=0, c=0, meant=""):
     """`meant`: the words that the answer is to begin with."""
     op = ORDER.index(kind) << 4 | asked
-    rows = asked == 3 and kind != RRT
+    rows = (kind, asked) in ROWS
     lent = [7] * a if rows else []
     try:
         said = answer(op, a, b, c, s, lent)
@@ -283,6 +294,12 @@ for title, meant in TITLES.items():
     add(EIT, 3, s, 24, meant="rows 3")
 
 # ---- dimensions of a rating table and their values
+def add_values(s, count):
+    """The rows of all values, of which there are so many, with room for them and one number less."""
+    add(RRT, 5, s, 6 * count, meant="rows %d" % count)
+    add(RRT, 5, s, 6 * count - 1, meant="refused 12")
+
+
 for values in (1, 5, 10, 15):
     for scale in "01":
         for r in "01":
@@ -291,6 +308,8 @@ for values in (1, 5, 10, 15):
                           dimension(TWO, [value(TEA, b"\0")] * values, scale, r),
                           dimension(b"", [value()] * 15, *others)])
             add(RRT, 2, s, 1, meant="52 20 %s %d" % (scale, values))
+            add(RRT, 4, s, 12, meant="rows 3")
+    add_values(s, 23 + values)
     add(RRT, 3, s, 1, values - 1)
     add(RRT, 3, s, 1, values, meant="refused 13")
 for count in (1, 0x55, 0xAA, 251):
@@ -299,17 +318,25 @@ for count in (1, 0x55, 0xAA, 251):
     add(RRT, 2, s, count - 1, meant="%d 0 %d 1" % (8 + 4 * count, count % 2))
     add(RRT, 3, s, count - 1, meant="%d 0 %d 0" % (10 + 4 * count, 11 + 4 * count))
     add(RRT, 2, s, count, meant="refused 13")
+    add(RRT, 4, s, 4 * count, meant="rows %d" % count)
+    add(RRT, 4, s, 4 * count - 1, meant="refused 12")
+    add_values(s, count)
+add_values(rrt(b"", [dimension(b"", [value()] * n) for n in [15] * 31 + [6]]), 471)
 for text in (b"", b"\0", b"\1eng\0", text_of(0x55), text_of(0xAA), text_of(255)):
     n = len(text)
     s = rrt(text, [BLANK, dimension(b"", [value(b"", TEA), value(TEA)])], extension=0xFF01)
     add(RRT, 1, s, meant="65281 1 10 %d 2" % n)
     add(RRT, 3, s, 1, 1, meant="%d 11 %d 0" % (n + 31, n + 43))
+    add(RRT, 4, s, 8, meant="rows 2")
+    add_values(s, 3)
     s = rrt(b"", [BLANK, dimension(text, [value()])])
     add(RRT, 2, s, 1, meant="16 %d 0 1" % n)
+    add(RRT, 4, s, 8, meant="rows 2")
     s = rrt(b"", [dimension(b"", [value(text, TEA), value(TEA, text), value()])])
     add(RRT, 3, s, 0, 0, meant="14 %d %d 11" % (n, n + 15))
     add(RRT, 3, s, 0, 1, meant="%d 11 %d %d" % (n + 27, n + 39, n))
     add(RRT, 3, s, 0, 2, meant="%d 0 %d 0" % (2 * n + 40, 2 * n + 41))
+    add_values(s, 3)
 s = rrt(TEA, [dimension(b"", [value(TEA)] * 2), dimension(TEA, [value(b"", TEA)] * 5, "1"),
               dimension(b"\0", [value()])], D)
 for a, count in enumerate((2, 5, 1)):
@@ -406,9 +433,12 @@ for kind, s in SAMPLES.items():
     if kind != ETT:
         for a in (0, 1, 2, 3, 255, 256, 2**32, FAR):
             add(kind, 2, s, a, meant="refused 13" if a > 2 else "")
-for kind, row in ROW.items():
-    for room in (3 * row, 3 * row - 1, 2 * row, 1, 0, 3 * row + 1, 300, 4000):
-        add(kind, 3, SAMPLES[kind], room, meant="rows 3" if room >= 3 * row else "refused 12")
+SIZES = [(kind, 3, row, 3) for kind, row in ROW.items()] + [(RRT, 4, 4, 3), (RRT, 5, 6, 7)]
+for kind, asked, row, count in SIZES:
+    size = row * count
+    for room in (size, size - 1, size - row, 1, 0, size + 1, 300, 4000):
+        add(kind, asked, SAMPLES[kind], room,
+            meant="rows %d" % count if room >= size else "refused 12")
 
 # ---- chance
 chance = random.Random(65)
@@ -424,10 +454,19 @@ for kind, (_, build, whole) in BUILT.items():
         for a, head in enumerate(heads):
             add(kind, 2, s, a, meant=numbers(kind, head))
 
+for _ in range(16):
+    texts = [chance.choice((b"", b"\0", TEA, TWO, text_of(0x55))) for _ in range(8)]
+    s = rrt(texts[0], [dimension(chance.choice(texts),
+                                 [value(chance.choice(texts[:3]), chance.choice(texts[:3]))
+                                  for _ in range(chance.randint(1, 3))], chance.choice("01"))
+                       for _ in range(chance.randint(1, 3))], extension=chance.getrandbits(16))
+    add(RRT, 4, s, 13)
+    add(RRT, 5, s, chance.choice((12, 30, 55)))
+
 # ---- refusals 1 to 9 before 13 and 12, and the sections of other kinds
 for kind, s in SAMPLES.items():
     for asked in ASKED[kind]:
-        rows = asked == 3 and kind != RRT
+        rows = (kind, asked) in ROWS
         for k, other in enumerate(spoiled(s), 1):
             add(kind, asked, other, 1 if rows else FAR, meant="refused %d" % k)
         for other in ORDER:

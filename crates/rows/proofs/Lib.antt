@@ -1,2 +1,3 @@
 pub mod RowsLaws
+pub mod ValuesLaws
 pub mod OnceLaws

@@ -11,6 +11,7 @@ use Rattle.rows.specs.declared.RowsAnswer.{RowsAnswer}
 use Rattle.rows.specs.declared.RowsAnswer.the-variants.{Refused, Are}
 use Rattle.rows.specs.declared.Row.{Row}
 use Rattle.rows.specs.Rows.{withRows, rowsOutcome}
+use Rattle.rows.specs.Values.{withValueRows}
 
 rows-told : Outcome ℕ → RowsAnswer
 rows-told (refused n) = Refused (numbered n)
@@ -27,3 +28,7 @@ rows-once = once-by rowsOutcome rows-told rows-back
 pub rows-keep : (r : Row) (s l : List ℕ) (o : Outcome ℕ) (x : RowsAnswer) (k : Refusal) → rowsOutcome x ≡ o → x ≡ Refused k → withRows r s o l ≡ l
 unfolding withRows
 rows-keep r s l o x k e q = let n : o ≡ refused (numberOf k) = sym e ∙ ap rowsOutcome q in rw n
+
+pub value-rows-keep : (s l : List ℕ) (o : Outcome ℕ) (x : RowsAnswer) (k : Refusal) → rowsOutcome x ≡ o → x ≡ Refused k → withValueRows s o l ≡ l
+unfolding withValueRows
+value-rows-keep s l o x k e q = let n : o ≡ refused (numberOf k) = sym e ∙ ap rowsOutcome q in rw n

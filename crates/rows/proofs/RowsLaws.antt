@@ -10,15 +10,19 @@ use lib.Seq.{sets, length-sets}
 use Rattle.logic.proofs.ChoiceLaws.{lt-yes, lt-no}
 use Rattle.bytes_at.specs.declared.Walk.the-variants.{To}
 use Rattle.bytes_at.specs.Walks.{many}
-use Rattle.bytes_at.proofs.WalkLaws.{many-inv}
+use Rattle.bytes_at.proofs.WalkLaws.{many-inv, reached}
 use Rattle.refusal.specs.Outcomes.{refused, result}
 use Rattle.kind.specs.Kinds.{limitsOf, onlyOf}
 use Rattle.format.specs.Formats.{walks}
 use Rattle.format.specs.Lawful.{Bytes}
+use Rattle.strings.specs.Places.{textEnd}
 use Rattle.row.proofs.RowLaws.{sets-append}
 use Rattle.mgt.proofs.DefinedLaws.{defined-ends, row-six}
 use Rattle.channel.proofs.ChannelLaws.{channel-ends}
 use Rattle.channel.proofs.RowLaws.{row-21}
+use Rattle.rrt.specs.Inner.{DimensionStands}
+use Rattle.rrt.proofs.WalkLaws.{dimension-ends}
+use Rattle.rrt.proofs.RowLaws.{row-four}
 use Rattle.eit.proofs.EventLaws.{event-ends}
 use Rattle.eit.proofs.RowLaws.{row-eight}
 use Rattle.section.specs.declared.header.Header.{Header}
@@ -28,7 +32,7 @@ use Rattle.entry.specs.Entries.{tableOf, formatOf, countOf, firstOf, entryWalk}
 use Rattle.entry.specs.Inner.{Begins}
 use Rattle.entry.proofs.EntryLaws.{entry-inside, judged-entries, judged-begins}
 use Rattle.rows.specs.declared.Row.{Row}
-use Rattle.rows.specs.declared.Row.the-variants.{Table, Channel, Event}
+use Rattle.rows.specs.declared.Row.the-variants.{Table, Channel, Dimension, Event}
 use Rattle.rows.specs.Rows.{entryFor, width, rowAt, nextAt, rowsFrom, roomFor, rowsIn, withRows}
 use Rattle.rows.specs.Inner.{Entries}
 
@@ -37,6 +41,7 @@ row-length : (r : Row) (s : List ℕ) (a : ℕ) → length (rowAt r s a) ≡ wid
 unfolding rowAt
 row-length Table s a = row-six s a
 row-length Channel s a = row-21 s a
+row-length Dimension s a = row-four s a
 row-length Event s a = row-eight s a
 
 -- an entry that a walk has passed ends where the next row begins
@@ -44,6 +49,7 @@ entry-ends : (r : Row) (s : List ℕ) (end a b : ℕ) → walks (formatOf (entry
 unfolding formatOf nextAt
 entry-ends Table s end a b w = defined-ends s end a b w
 entry-ends Channel s end a b w = channel-ends s end a b w
+entry-ends Dimension s end a b w = dimension-ends s end a b w
 entry-ends Event s end a b w = event-ends s end a b w
 
 -- a count takes two bytes at most, so that the size of all rows is a number the code can hold
@@ -51,6 +57,7 @@ pub count-small : (r : Row) (s : List ℕ) → Bytes s → countOf (entryFor r) 
 unfolding countOf
 count-small Table s z = omega (arith, z 9, z 10)
 count-small Channel s z = omega (arith, z 9)
+count-small Dimension s z = omega (arith, z (textEnd s 9))
 count-small Event s z = omega (arith, z 9)
 
 -- ---- rows, one after the other
@@ -78,8 +85,12 @@ module _ (r : Row) (s : List ℕ) where
   unfolding rowsFrom
   row-none l p n a e = rw e
 
+  -- of those that stand, the first does
+  pub entries-first : (n a : ℕ) → 0 < n → Entries r s n a → Entries r s 1 a
+  entries-first n a h t = record { stands = reached _ 1 n a (t .stands .0) h (t .stands .1); begins = t .begins; small = t .small }
+
   -- the entry that was passed is the first of those that stood
-  entries-step : (n a : ℕ) → 0 < n → Entries r s n a → Entries r s (n - 1) (nextAt r s a)
+  pub entries-step : (n a : ℕ) → 0 < n → Entries r s n a → Entries r s (n - 1) (nextAt r s a)
   entries-step n a h t =
       let m = many-inv _ n a (t .stands .0) h (t .stands .1) in
       let e = entry-ends r s (length s - 4) a (m .0) (m .1 .0) in
@@ -109,6 +120,11 @@ module _ (r : Row) (s : List ℕ) where
     pub rows-done : n ≡ 0 → l ≡ final
     rows-done e = row-none l p n a e ∙ left .leads
 
+-- ---- what is lent to the room of the RRT: the first of the dimensions that stand
+pub dimension-stands : (s : List ℕ) (n d : ℕ) → 0 < n → Entries Dimension s n d → DimensionStands s d
+unfolding formatOf
+dimension-stands s n d h t = let m = many-inv _ n d (t .stands .0) h (t .stands .1) in (m .0, m .1 .0)
+
 -- ---- whether n rows of w numbers have room, and what the lent list is then
 module _ (r : Row) (s l : List ℕ) (w n : ℕ) (wide : w ≡ width r) (counted : n ≡ countOf (entryFor r) s) where
   pub no-room : length l < w * n → (refused 12 ≡ rowsIn r s (length l)) × (l ≡ withRows r s (rowsIn r s (length l)) l)
@@ -130,6 +146,7 @@ module _ (r : Row) (s l : List ℕ) (w n : ℕ) (wide : w ≡ width r) (counted 
 largest-small : (r : Row) → limitsOf (tableOf (entryFor r)) .largest + 3 ≤ 4096
 largest-small Table = omega arith
 largest-small Channel = omega arith
+largest-small Dimension = omega arith
 largest-small Event = omega arith
 
 pub judged-rows : (r : Row) (s : List ℕ) (h : Header) → sectionBy (onlyOf (tableOf (entryFor r))) s ≡ result h

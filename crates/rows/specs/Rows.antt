@@ -8,13 +8,14 @@ use Rattle.refusal.specs.Outcomes.{Outcome, refused, result, after}
 use Rattle.kind.specs.Kinds.{onlyOf}
 use Rattle.mgt.specs.Fields.{definedRow, definedEnd}
 use Rattle.channel.specs.Fields.{channelRow, channelEnd}
+use Rattle.rrt.specs.Fields.{dimensionRow, dimensionEnd}
 use Rattle.eit.specs.Fields.{eventRow, eventEnd}
 use Rattle.section.specs.Sections.{sectionBy}
 use Rattle.entry.specs.declared.Entry.{Entry}
 use Rattle.entry.specs.declared.Entry.the-variants as entries
 use Rattle.entry.specs.Entries.{tableOf, countOf, firstOf}
 use Rattle.rows.specs.declared.Row.{Row}
-use Rattle.rows.specs.declared.Row.the-variants.{Table, Channel, Event}
+use Rattle.rows.specs.declared.Row.the-variants.{Table, Channel, Dimension, Event}
 use Rattle.rows.specs.declared.RowsAnswer.{RowsAnswer}
 use Rattle.rows.specs.declared.RowsAnswer.the-variants.{Refused, Are}
 
@@ -22,23 +23,27 @@ use Rattle.rows.specs.declared.RowsAnswer.the-variants.{Refused, Are}
 abbrev pub entryFor : Row → Entry
 entryFor Table = entries.Table
 entryFor Channel = entries.Channel
+entryFor Dimension = entries.Dimension
 entryFor Event = entries.Event
 
 -- how many numbers a row has
 abbrev pub width : Row → ℕ
 width Table = 6
 width Channel = 21
+width Dimension = 4
 width Event = 8
 
 -- the row of the entry that begins at a, and where the next entry begins
 unfoldable pub rowAt : Row → List ℕ → ℕ → List ℕ
 rowAt Table s a = definedRow s a
 rowAt Channel s a = channelRow s a
+rowAt Dimension s a = dimensionRow s a
 rowAt Event s a = eventRow s a
 
 unfoldable pub nextAt : Row → List ℕ → ℕ → ℕ
 nextAt Table s a = definedEnd s a
 nextAt Channel s a = channelEnd s a
+nextAt Dimension s a = dimensionEnd s a
 nextAt Event s a = eventEnd s a
 
 -- the rows of n entries, the first of which begins at a
@@ -46,13 +51,13 @@ unfoldable pub rowsFrom : Row → List ℕ → ℕ → ℕ → List ℕ
 rowsFrom r s zero a = []
 rowsFrom r s (suc n) a = rowAt r s a ++ rowsFrom r s n (nextAt r s a)
 
--- 12 where n rows have no room
-unfoldable pub roomFor : Row → ℕ → ℕ → Outcome ℕ
-roomFor r n room = ifLt room (width r * n) (refused 12) (result n)
+-- 12 where n rows of w numbers have no room
+unfoldable pub roomFor : ℕ → ℕ → ℕ → Outcome ℕ
+roomFor w n room = ifLt room (w * n) (refused 12) (result n)
 
 -- how many rows a section has, or 12 where a list of this length has no room for them
 unfoldable pub rowsIn : Row → List ℕ → ℕ → Outcome ℕ
-rowsIn r s room = roomFor r (countOf (entryFor r) s) room
+rowsIn r s room = roomFor (width r) (countOf (entryFor r) s) room
 
 unfoldable pub rowsOf : Row → List ℕ → ℕ → Outcome ℕ
 rowsOf r s room = after (sectionBy (onlyOf (tableOf (entryFor r))) s) (λ h. rowsIn r s room)

@@ -1,5 +1,7 @@
-// All entries of a table at once: the section is judged once, and a lent list of numbers takes a row
-// for each entry.
+// All entries of a table at once, and all values of an RRT: the section is judged once, and a lent
+// list of numbers takes a row for each.
+mod values;
+
 use entry::Entry;
 use entry::count_of;
 use entry::first_of;
@@ -7,6 +9,7 @@ use kind::Kind;
 use refusal::Refusal;
 use section::Head;
 use section::judge_kind;
+pub use values::value_rows;
 ghost use mathlib.Core.Path.{_≡_};
 ghost use Prim.Native.Nat.{_+_, _*_, _≤_};
 ghost use lib.ListN.{length};
@@ -20,11 +23,14 @@ ghost use Rattle.rows.specs.Inner.{Entries};
 // where the descriptors begin, descriptors_length. A channel's has 21: the seven units of the short
 // name, major, minor, modulation, carrier, channel_TSID, program_number, ETM_location,
 // access_controlled, hidden, the six bits, service_type, source_id, where the descriptors begin,
-// descriptors_length. An event's has eight: event_id, start_time, ETM_location, length_in_seconds,
-// where the title begins, title_length, where the descriptors begin, descriptors_length.
+// descriptors_length. A dimension's has four: where the name begins, name_length, graduated_scale,
+// the number of its values. An event's has eight: event_id, start_time, ETM_location,
+// length_in_seconds, where the title begins, title_length, where the descriptors begin,
+// descriptors_length.
 pub enum Row {
     Table,
     Channel,
+    Dimension,
     Event,
 }
 
@@ -40,6 +46,7 @@ fn entry_for(row: Row) -> Entry
     match row {
         Row::Table => Entry::Table,
         Row::Channel => Entry::Channel,
+        Row::Dimension => Entry::Dimension,
         Row::Event => Entry::Event,
     }
 }
@@ -50,6 +57,7 @@ fn kind_for(row: Row) -> Kind
     match row {
         Row::Table => Kind::Mgt,
         Row::Channel => Kind::Tvct,
+        Row::Dimension => Kind::Rrt,
         Row::Event => Kind::Eit,
     }
 }
@@ -60,19 +68,21 @@ fn width_of(row: Row) -> usize
     match row {
         Row::Table => 6,
         Row::Channel => 21,
+        Row::Dimension => 4,
         Row::Event => 8,
     }
 }
 
 // The row of the entry that begins at a, from p on, and where the next one begins.
 fn put_row(s: &[u8], row: Row, a: usize, p: usize, out: &mut [u32]) -> usize
-    requires { ⌜ ((a ≤ length (now s)) × (length (now s) ≤ 4096)) × (p + width row ≤ length (now out)) ⌝ }
+    requires { ⌜ Entries row (now s) 1 a × (p + width row ≤ length (now out)) ⌝ }
     ensures next { λ r. ⌜ r ≡ nextAt row (now (s .entry)) a ⌝ }
     ensures puts { λ _. ⌜ now (out .exit) ≡ sets (now (out .entry)) p (rowAt row (now (s .entry)) a) ⌝ }
 {
     match row {
         Row::Table => mgt::put_row(s, a, p, out),
         Row::Channel => channel::put_row(s, a, p, out),
+        Row::Dimension => rrt::put_row(s, a, p, out),
         Row::Event => eit::put_row(s, a, p, out),
     }
 }

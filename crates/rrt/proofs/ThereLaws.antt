@@ -1,7 +1,7 @@
 -- The tie of what is read to the format: where an encoding lies, what is answered is what it is the encoding of.
 use Prim.Native.Nat.{ℕ, _+_, _*_, _%_, _^_, _≤_}
 use mathlib.Core.Path.{_≡_, refl, sym, ap, _∙_}
-use mathlib.Core.List.{List, _++_}
+use mathlib.Core.List.{List, [], _∷_, _++_}
 use native.Mathlib.Omega.{arith}
 use lib.ListN.{length, length-append}
 use Rattle.format.specs.Lawful.{Lies, Bytes, encs}
@@ -18,10 +18,14 @@ use Rattle.strings.specs.Places.{textAt, textEnd}
 use Rattle.strings.proofs.TextLaws.{text-there, text-end-there}
 use Rattle.descriptor.specs.Descriptors.{descriptors, list10, noTag}
 use Rattle.descriptor.proofs.ListLaws.{list10-there}
+use Rattle.row.specs.Rows.{partRow}
+use Rattle.rrt.specs.declared.dimension.Dimension.{Dimension}
+use Rattle.rrt.specs.declared.dimension.ValueTexts.{ValueTexts}
 use Rattle.rrt.specs.Format.{scaleHead, ValueFields, valueFormat, value, DimensionFields, dimensionFormat, dimension}
 use Rattle.rrt.specs.Format.{dimensions, rest, RrtFields, rrtFormat, rrt}
-use Rattle.rrt.specs.Fields.{countAt, firstAt, fieldsAt, valuesAt, firstValueAt, dimensionAt, textsAt}
-use Rattle.rrt.specs.Values.{partFor, textsFor, dimensionFor, firstValueFor, firstFor, dimensionsEnd, fieldsFor}
+use Rattle.rrt.specs.Fields.{countAt, firstAt, fieldsAt, valuesAt, firstValueAt, dimensionAt, textsAt, valueEnd, dimensionEnd, dimensionRow, textsRow, valueRow}
+use Rattle.rrt.specs.Values.{partFor, textsFor, valueRowFor, dimensionFor, rowFor, firstValueFor, firstFor, dimensionsEnd, fieldsFor}
+use Rattle.rrt.proofs.WalkLaws.{value-ends, dimension-ends}
 
 -- a text that lies with its length, which stands at `at`, and more bytes that lie behind it
 record Placed (s : List ℕ) (at : ℕ) (x : text .Val) (more : List ℕ) : Type 0 where
@@ -58,6 +62,15 @@ module _ (s : List ℕ) (z : Bytes s) where
         let q = ap (textAt s) (short-placed .ends) ∙ long-placed .0 in
         λ i. record { «short_text» = p i; «long_text» = q i }
 
+    pub value-row-there : (i j : ℕ) → valueRow s i j a ≡ valueRowFor i j a v
+    unfolding valueRow textsRow
+    value-row-there i j = ap (λ (t : ValueTexts). (i ∷ j ∷ []) ++ (partRow (t .«short_text») ++ partRow (t .«long_text»))) value-there
+
+    pub value-end-there : valueEnd s a ≡ a + length (valueFormat .enc v)
+    unfolding value
+    value-end-there =
+        sym (value-ends s (a + length (valueFormat .enc v)) a _ (valueFormat .law (record {}) .sound s (a + length (valueFormat .enc v)) a v o l (omega arith)))
+
     pub short-lies : text .Ok (record {}) (v .short) × Lies (text .enc (v .short)) s (textsFor a v .«short_text» .start)
     short-lies = (o .0 .1 .1 .1, short-placed .lies)
 
@@ -85,6 +98,15 @@ module _ (s : List ℕ) (z : Bytes s) where
         let c = ap (λ (v : Vals scaleHead). v .1 .0) (counted .0 .0) in
         let v = counted .0 .1 in
         λ i. record { name = n i; «graduated_scale» = c i; values = v i }
+
+    pub row-there : dimensionRow s d ≡ rowFor d x
+    unfolding dimensionRow
+    row-there = ap (λ (y : Dimension). partRow (y .name) ++ (y .«graduated_scale» ∷ y .values ∷ [])) dimension-there
+
+    pub end-there : dimensionEnd s d ≡ d + length (dimensionFormat .enc x)
+    unfolding dimension
+    end-there =
+        sym (dimension-ends s (d + length (dimensionFormat .enc x)) d _ (dimensionFormat .law (record {}) .sound s (d + length (dimensionFormat .enc x)) d x o l (omega arith)))
 
     pub dimension-name-lies : text .Ok (record {}) (x .name) × Lies (text .enc (x .name)) s (dimensionFor d x .name .start)
     dimension-name-lies = (o .0 .1 .1 .1, name-placed .lies)

@@ -1,5 +1,5 @@
 -- What a walk that stands tells of an RRT, a dimension and a value.
-use Prim.Native.Nat.{ℕ, _+_, _-_, _%_, _≤_, _<_}
+use Prim.Native.Nat.{ℕ, zero, suc, _+_, _-_, _%_, _≤_, _<_}
 use mathlib.Core.Path.{_≡_, refl, sym, ap, _∙_}
 use mathlib.Core.Bool.{Bool, true, false}
 use mathlib.Core.List.{List, [], _∷_}
@@ -10,7 +10,7 @@ use Rattle.bytes_at.specs.declared.Walk.{Walk}
 use Rattle.bytes_at.specs.declared.Walk.the-variants.{To, Bad}
 use Rattle.bytes_at.specs.Fields.{byteAt}
 use Rattle.bytes_at.specs.Walks.{fieldsTo, then, many}
-use Rattle.bytes_at.proofs.WalkLaws.{never, then-inv, ended}
+use Rattle.bytes_at.proofs.WalkLaws.{to-is, never, then-inv, ended}
 use Rattle.format.specs.Formats.{One, Format, walks, walksAll}
 use Rattle.format.specs.Formats.{some as some-of}
 use Rattle.format.proofs.FieldLaws.{fields-end, merge}
@@ -19,7 +19,7 @@ use Rattle.strings.specs.Places.{textEnd}
 use Rattle.strings.proofs.TextLaws.{text-end, text-inside}
 use Rattle.descriptor.specs.Descriptors.{list10, noTag}
 use Rattle.rrt.specs.Format.{value, dimension, dimensions, rest, rrt}
-use Rattle.rrt.specs.Fields.{countAt, firstAt, valuesAt, firstValueAt}
+use Rattle.rrt.specs.Fields.{countAt, firstAt, valuesAt, firstValueAt, valueEnd, valuesEnd, dimensionEnd}
 
 -- ---- a count that is not 0, of which g is made, and as many of a format
 module _ (f : Format One) (g : ℕ → ℕ) (s : List ℕ) (end at b : ℕ) where
@@ -53,6 +53,17 @@ module _ (s : List ℕ) (end a b : ℕ) (w : walks value s end a ≡ To b) where
       let u = text-inside s end (textEnd s a) b (value-parts .1) in
       (omega (arith, t, u), u .1)
 
+  pub value-ends : b ≡ valueEnd s a
+  value-ends = text-end s end (textEnd s a) b (value-parts .1)
+
+-- and several, one after the other
+values-end : (s : List ℕ) (end n a b : ℕ) → many (walks value s end) n a ≡ To b → b ≡ valuesEnd s n a
+unfolding many valuesEnd
+values-end s end zero a b w = to-is a b w
+values-end s end (suc n) a b w =
+    let p = then-inv _ _ b w in
+    values-end s end n (p .0) b (p .1 .1) ∙ ap (valuesEnd s n) (value-ends s end a (p .0) (p .1 .0))
+
 -- ---- a dimension: its name, and its values
 module _ (s : List ℕ) (end d b : ℕ) (w : walks dimension s end d ≡ To b) where
   parts : (c : ℕ) × ((walks sizedText s end d ≡ To c)
@@ -74,6 +85,10 @@ module _ (s : List ℕ) (end d b : ℕ) (w : walks dimension s end d ≡ To b) w
   dimension-forward =
       let t = text-inside s end d (textEnd s d) name-walked in
       dimension .law (record {}) .within s end d b (omega (arith, t)) w
+
+  pub dimension-ends : b ≡ dimensionEnd s d
+  unfolding dimensionEnd
+  dimension-ends = values-end s end (valuesAt s d) (firstValueAt s d) b (values-walked .0)
 
 -- ---- the table: the region name, the dimensions, and the table's own descriptors
 module _ (s : List ℕ) (end at e : ℕ) (w : walksAll rrt s end at ≡ To e) where

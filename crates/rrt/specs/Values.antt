@@ -1,12 +1,14 @@
 -- What is answered for a value of the format, where its encoding lies at a place.
 use Prim.Native.Nat.{ℕ, _+_, _%_}
 use mathlib.Core.Path.{_≡_}
+use mathlib.Core.List.{List, [], _∷_, _++_}
 use lib.ListN.{length}
 use Rattle.format.specs.Lawful.{All, encs}
 use Rattle.part.specs.declared.Part.{Part}
 use Rattle.part.specs.Parts.{endOf}
 use Rattle.strings.specs.Strings.{text}
 use Rattle.descriptor.specs.Descriptors.{descriptors, noTag}
+use Rattle.row.specs.Rows.{partRow}
 use Rattle.rrt.specs.declared.table.Table.{Table}
 use Rattle.rrt.specs.declared.dimension.Dimension.{Dimension}
 use Rattle.rrt.specs.declared.dimension.ValueTexts.{ValueTexts}
@@ -20,9 +22,17 @@ partFor at x = record { start = at + 1; length = length (text .enc x) }
 abbrev pub textsFor : ℕ → ValueFields → ValueTexts
 textsFor a v = record { «short_text» = partFor a (v .short); «long_text» = partFor (endOf (partFor a (v .short))) (v .long) }
 
+-- its row, where it is value j of dimension i
+abbrev pub valueRowFor : ℕ → ℕ → ℕ → ValueFields → List ℕ
+valueRowFor i j a v = (i ∷ j ∷ []) ++ (partRow (partFor a (v .short)) ++ partRow (partFor (endOf (partFor a (v .short))) (v .long)))
+
 -- ---- a dimension that begins at d
 abbrev pub dimensionFor : ℕ → DimensionFields → Dimension
 dimensionFor d x = record { name = partFor d (x .name); «graduated_scale» = x .scale; values = length (x .values) }
+
+-- its row
+abbrev pub rowFor : ℕ → DimensionFields → List ℕ
+rowFor d x = partRow (partFor d (x .name)) ++ (x .scale ∷ length (x .values) ∷ [])
 
 -- where its first value begins: behind its name and the byte of scale and count
 abbrev pub firstValueFor : ℕ → DimensionFields → ℕ

@@ -6,7 +6,8 @@ use strings::text_end;
 ghost use mathlib.Core.Path.{_≡_};
 ghost use Prim.Native.Nat.{_<_, _≤_};
 ghost use lib.ListN.{length};
-ghost use Rattle.rrt.specs.Fields.{valuesAt, firstValueAt, dimensionAt, textsAt};
+ghost use Rattle.rrt.specs.Fields.{valuesAt, firstValueAt, dimensionAt, textsAt, valueEnd, valuesEnd, dimensionEnd};
+ghost use Rattle.rrt.specs.Inner.{DimensionStands, ValuesStand};
 
 pub struct Dimension {
     pub name: Part,
@@ -59,4 +60,34 @@ pub fn texts_at(s: &[u8], a: usize) -> ValueTexts
         short_text,
         long_text,
     }
+}
+
+// Where the value that begins at a ends.
+fn value_end(s: &[u8], a: usize) -> usize
+    requires { ⌜ a ≤ length (now s) ⌝ }
+    ensures { λ r. ⌜ r ≡ valueEnd (now (s .entry)) a ⌝ }
+{
+    text_end(s, text_end(s, a))
+}
+
+// Where n values end, the first of which begins at `from`.
+fn values_end(s: &[u8], n: usize, from: usize) -> usize
+    requires { ⌜ ValuesStand (now s) n from ⌝ }
+    ensures { λ r. ⌜ r ≡ valuesEnd (now (s .entry)) n from ⌝ }
+{
+    let mut a = from;
+    let mut left = n;
+    while 0 < left {
+        a = value_end(s, a);
+        left -= 1;
+    }
+    a
+}
+
+// Where the dimension ends.
+pub fn dimension_end(s: &[u8], d: usize) -> usize
+    requires { ⌜ DimensionStands (now s) d ⌝ }
+    ensures { λ r. ⌜ r ≡ dimensionEnd (now (s .entry)) d ⌝ }
+{
+    values_end(s, values(s, d), first_value(s, d))
 }

@@ -1,5 +1,6 @@
 // Questions to RRT.
 use crate::show::part;
+use crate::stored;
 use reading::rrts;
 use reading::rrts::EntryAnswer;
 use reading::rrts::TableAnswer;
@@ -51,6 +52,7 @@ pub fn answer(v: Vector, s: &[u8]) {
     match v.op % 16 {
         1 => fields(s),
         2 => dimension(s, v.a),
-        _ => value(s, v.a, v.b),
+        3 => value(s, v.a, v.b),
+        _ => stored::answer(v, s),
     }
 }

@@ -1,8 +1,9 @@
-// The rows of all entries, stored in a lent list that is all 7 before, so that what changed there shows.
+// The rows of all entries, and of all values of an RRT, stored in a lent list that is all 7 before, so that what changed there shows.
 use crate::show::short;
 use rows::Row;
 use rows::RowsAnswer;
 use rows::rows;
+use rows::value_rows;
 use test_lines::Vector;
 use test_lines::refused;
 use test_lines::say;
@@ -29,7 +30,9 @@ fn stored(op: usize, s: &[u8], out: &mut [u32]) -> RowsAnswer {
     match op {
         3 => rows(s, Row::Event, out),
         35 => rows(s, Row::Table, out),
-        _ => rows(s, Row::Channel, out),
+        51 => rows(s, Row::Channel, out),
+        68 => rows(s, Row::Dimension, out),
+        _ => value_rows(s, out),
     }
 }
 

@@ -5,7 +5,7 @@ use borrow.Author.Needs.{needs}
 use lib.ListN.{length}
 use lib.Seq.{sets}
 use Rattle.rows.specs.Rows.{rowsFrom}
-use Rattle.rows.proofs.RowsLaws.{RowsLeft, rows-room, rows-step, rows-done}
+use Rattle.rows.proofs.RowsLaws.{entries-first, RowsLeft, rows-room, rows-step, rows-done}
 use Rattle.rows.proofs.put_rows.Statement.{statement}
 use Rattle.rows.proofs.put_rows.Tie as tie
 
@@ -26,7 +26,7 @@ loop-holds c =
 put-row-requires : tie.Need-put-row-requires Inv-loop μ-loop
 put-row-requires c κs =
     let l = c .before .before .loop .inv in
-    ((l .entries .begins, l .entries .small), rows-room _ _ _ _ _ _ _ _ l (c .before .loop-test .taken))
+    (entries-first _ _ _ _ (c .before .loop-test .taken) (l .entries), rows-room _ _ _ _ _ _ _ _ l (c .before .loop-test .taken))
 
 add-p : tie.Need-add-p Inv-loop μ-loop
 add-p c =
