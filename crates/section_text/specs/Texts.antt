@@ -5,7 +5,7 @@ use lib.ListN.{length}
 use Rattle.refusal.specs.Outcomes.{Outcome, result, after}
 use Rattle.part.specs.Parts.{bytesIn}
 use Rattle.text.specs.declared.answer.Heading.{Heading}
-use Rattle.text.specs.Strings.{stringCount, stringUnits, stringHeading}
+use Rattle.text.specs.Strings.{stringCount, stringUnits, toldFrom, stringReplaced, stringHeading}
 use Rattle.section_text.specs.declared.field.Which.{Which}
 use Rattle.section_text.specs.Fields.{fieldOf}
 
@@ -20,3 +20,7 @@ textHeading s w k = after (fieldOf s w) (λ p. stringHeading (bytesIn s p) (leng
 -- the units of string k
 unfoldable pub textUnits : List ℕ → Which → ℕ → Outcome (List ℕ)
 textUnits s w k = after (fieldOf s w) (λ p. stringUnits (bytesIn s p) (length (bytesIn s p)) 0 k)
+
+-- how many segments of string k are replaced
+unfoldable pub textReplaced : List ℕ → Which → ℕ → ℕ
+textReplaced s w k = toldFrom (fieldOf s w) (λ p. stringReplaced (bytesIn s p) (length (bytesIn s p)) 0 k)

@@ -7,25 +7,26 @@ pub mod inner;
 use field::Field;
 use field::field_of;
 use part::part_of;
-use text::Answer;
+use text::Count;
 use text::Headed;
+use text::Units;
 ghost use mathlib.Core.Path.{_≡_};
 ghost use lib.ListN.{length};
-ghost use Rattle.text.specs.Answers.{numberOutcome, headingOutcome};
-ghost use Rattle.refusal.specs.Outputs.{counted, outputAfter};
+ghost use Rattle.text.specs.Answers.{countOutcome, unitsOutcome, headingOutcome, amountOf};
+ghost use Rattle.refusal.specs.Outputs.{outputAfter};
 ghost use Rattle.text.specs.Texts.{fitting};
-ghost use Rattle.section_text.specs.Texts.{textCount, textHeading, textUnits};
+ghost use Rattle.section_text.specs.Texts.{textCount, textHeading, textUnits, textReplaced};
 pub use field::Which;
 
 // The number of strings: 1 to 9, 13 for the entry.
-pub fn count_strings(s: &[u8], which: Which) -> Answer
-    ensures { λ r. ⌜ numberOutcome r ≡ textCount (now (s .entry)) which ⌝ }
+pub fn count_strings(s: &[u8], which: Which) -> Count
+    ensures { λ r. ⌜ countOutcome r ≡ textCount (now (s .entry)) which ⌝ }
 {
     match field_of(s, which) {
-        Field::Refused(r) => Answer::Refused(r),
+        Field::Refused(r) => Count::Refused(r),
         Field::At(p) => {
             let f = part_of(s, p.start, p.length);
-            Answer::Value(text::inner::count_strings(f, f.len(), 0))
+            Count::Is(text::inner::count_strings(f, f.len(), 0))
         }
     }
 }
@@ -43,12 +44,12 @@ pub fn string_heading(s: &[u8], which: Which, k: usize) -> Headed
     }
 }
 
-// The number of units of string k: 1 to 9, 13 for the entry, 13, then 10 or 11.
-pub fn string_units(s: &[u8], which: Which, k: usize) -> Answer
-    ensures { λ r. ⌜ numberOutcome r ≡ counted (textUnits (now (s .entry)) which k) ⌝ }
+// The number of units of string k, and of replaced segments: 1 to 9, 13 for the entry, 13, then 10 or 11.
+pub fn string_units(s: &[u8], which: Which, k: usize) -> Units
+    ensures { λ r. ⌜ unitsOutcome r ≡ amountOf (textReplaced (now (s .entry)) which k) (textUnits (now (s .entry)) which k) ⌝ }
 {
     match field_of(s, which) {
-        Field::Refused(r) => Answer::Refused(r),
+        Field::Refused(r) => Units::Refused(r),
         Field::At(p) => {
             let f = part_of(s, p.start, p.length);
             text::inner::string_units(f, f.len(), 0, k)
@@ -56,13 +57,13 @@ pub fn string_units(s: &[u8], which: Which, k: usize) -> Answer
     }
 }
 
-// The text of string k, at the output's start, and its number of units: the same order, then 12.
-pub fn string_text(s: &[u8], which: Which, k: usize, out: &mut [u16]) -> Answer
-    ensures answers { λ r. ⌜ numberOutcome r ≡ counted (fitting (length (now (out .entry))) (textUnits (now (s .entry)) which k)) ⌝ }
+// The text of string k, at the output's start, and the same numbers: the same order, then 12.
+pub fn string_text(s: &[u8], which: Which, k: usize, out: &mut [u16]) -> Units
+    ensures answers { λ r. ⌜ unitsOutcome r ≡ amountOf (textReplaced (now (s .entry)) which k) (fitting (length (now (out .entry))) (textUnits (now (s .entry)) which k)) ⌝ }
     ensures writes { λ _. ⌜ now (out .exit) ≡ outputAfter (now (out .entry)) (fitting (length (now (out .entry))) (textUnits (now (s .entry)) which k)) ⌝ }
 {
     match field_of(s, which) {
-        Field::Refused(r) => Answer::Refused(r),
+        Field::Refused(r) => Units::Refused(r),
         Field::At(p) => {
             let f = part_of(s, p.start, p.length);
             text::inner::string_text(f, f.len(), 0, k, out)

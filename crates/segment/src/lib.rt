@@ -5,7 +5,7 @@
 // A segment has at most 255 bytes, since its number_bytes is one byte, and each unit takes a bit or more: 2,040 units have room.
 pub mod inner;
 
-use crate::inner::put_unit;
+use crate::inner::copy;
 use bytes_at::byte;
 use steps::step_of;
 use trees::byte_of;
@@ -13,7 +13,6 @@ use trees::root_of;
 ghost use mathlib.Core.Path.{_≡_};
 ghost use Prim.Native.Nat.{_+_, _*_, _<_, _≤_};
 ghost use lib.ListN.{length, getD, take, drop};
-ghost use lib.Seq.{sets};
 ghost use Rattle.annex_c.specs.Tree.{tree, walked};
 ghost use Rattle.trees.specs.Which.{tableOf};
 ghost use Rattle.steps.specs.Reaches.{Stepping};
@@ -159,18 +158,6 @@ fn raw(titles: bool, s: &&[u8], at: usize, left: usize, out: &mut [u16; 2040], n
     }
     out[n] = wide(c);
     coded(titles, s, at + 8, c, out, n + 1)
-}
-
-// The first k units of o, from place n of the output on.
-fn copy(o: &[u16], k: usize, out: &mut [u16], n: usize)
-    requires { ⌜ k ≤ length (now o) ⌝ }
-    ensures { λ _. ⌜ now (out .exit) ≡ sets (now (out .entry)) n (take k (now (o .entry))) ⌝ }
-{
-    let mut i = 0;
-    while i < k {
-        put_unit(out, n, i, o[i]);
-        i += 1;
-    }
 }
 
 // The units of the segment s, from place n of the array on, and the place after them; or 4096 and the refusal's number.

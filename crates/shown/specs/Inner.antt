@@ -7,8 +7,8 @@ use Rattle.refusal.specs.Numbers.{numberOf}
 use Rattle.refusal.specs.Outcomes.{Outcome, refused, result}
 use Rattle.eit.specs.declared.event.Title.{Title}
 use Rattle.eit.specs.declared.event.Title.the-variants.{None, NoStrings, Text}
-use Rattle.text.specs.declared.answer.Answer.{Answer}
-use Rattle.text.specs.declared.answer.Answer.the-variants.{Refused, Value}
+use Rattle.text.specs.declared.answer.Units.{Units}
+use Rattle.text.specs.declared.answer.Units.the-variants.{Refused, Are}
 
 -- a title that stands within so many bytes, and whose length has 8 bits
 abbrev pub Placed : ℕ → Title → Type 0
@@ -17,10 +17,10 @@ Placed size NoStrings = record {}
 Placed size (Text p) = (endOf p ≤ size) × (p .length < 256)
 
 -- the text that an answer tells, its units at the list's start, and that it stands there
-unfoldable pub told : Answer → List ℕ → Outcome (List ℕ)
+unfoldable pub told : Units → List ℕ → Outcome (List ℕ)
 told (Refused k) us = refused (numberOf k)
-told (Value m) us = result (take m us)
+told (Are a) us = result (take (a .units) us)
 
-abbrev pub Fits : Answer → List ℕ → Type 0
+abbrev pub Fits : Units → List ℕ → Type 0
 Fits (Refused k) us = record {}
-Fits (Value m) us = m ≤ length us
+Fits (Are a) us = a .units ≤ length us

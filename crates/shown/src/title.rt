@@ -6,7 +6,7 @@ use crate::put::put_all;
 use crate::put::put_field;
 use eit::Title;
 use part::Part;
-use text::Answer;
+use text::Units;
 use text::inner::string_read;
 ghost use mathlib.Core.Path.{_≡_};
 ghost use mathlib.Core.List.{[], _∷_};
@@ -100,13 +100,16 @@ fn put_quoted(out: &mut [u8], n: usize, units: &[u16]) -> usize
 }
 
 // The text that a call answered, its units at the list's start.
-fn put_answer(r: Answer, units: &[u16], out: &mut [u8], n: usize) -> usize
+fn put_answer(r: Units, units: &[u16], out: &mut [u8], n: usize) -> usize
     requires { ⌜ Fits r (now units) ⌝ }
     ensures { λ x. ⌜ Put (textShown (told r (now (units .entry)))) (now (out .entry)) n x (now (out .exit)) ⌝ }
 {
     match r {
-        Answer::Refused(k) => put_field(out, n, b"refused ", number_of(k)),
-        Answer::Value(m) => put_quoted(out, n, &units[..m]),
+        Units::Refused(k) => put_field(out, n, b"refused ", number_of(k)),
+        Units::Are(a) => {
+            let m = a.units;
+            put_quoted(out, n, &units[..m])
+        }
     }
 }
 

@@ -71,12 +71,20 @@ way-few Titles s = compressed-few _ s
 way-few Descriptions s = compressed-few _ s
 way-few Unread s = omega arith
 
-pub segment-few : (s : List ℕ) (at : ℕ) → Few (8 * byteAt s (at + 2)) (segmentUnits s at)
+-- its head of three bytes is counted with it
+pub segment-few : (s : List ℕ) (at : ℕ) → Few (8 * (byteAt s (at + 2) + 3)) (segmentUnits s at)
 unfolding segmentUnits
 segment-few s at =
     let bytes = take (byteAt s (at + 2)) (drop (at + 3) s) in
-    few-more (8 * length bytes) (8 * byteAt s (at + 2)) (segmentUnits s at)
+    few-more (8 * length bytes) (8 * (byteAt s (at + 2) + 3)) (segmentUnits s at)
     (omega (arith, length-take (byteAt s (at + 2)) (drop (at + 3) s))) (way-few _ bytes)
+
+-- it has room in an array of 2,040 units
+pub segment-room : (s : List ℕ) (at : ℕ) → byteAt s (at + 2) ≤ 255 → Few 2040 (segmentUnits s at)
+unfolding segmentUnits
+segment-room s at h =
+    let bytes = take (byteAt s (at + 2)) (drop (at + 3) s) in
+    few-more (8 * length bytes) 2040 (segmentUnits s at) (omega (arith, length-take (byteAt s (at + 2)) (drop (at + 3) s))) (way-few _ bytes)
 
 -- ---- the segments of a string
 joined-few : (m n : ℕ) (x y : Outcome (List ℕ)) → Few m x → Few n y → Few (m + n) (joined x y)
@@ -102,7 +110,7 @@ unfolding after standing
 next-few s end at m (Bad x) e h rest = omega arith
 next-few s end at m (To b) e h rest =
     let q = segment-end s end at b e in
-    few-more (8 * byteAt s (at + 2) + 8 * (end - b)) (8 * (end - at)) (joined (segmentUnits s at) (joinedUnits s end m b)) (omega (arith, q, h))
+    few-more (8 * (byteAt s (at + 2) + 3) + 8 * (end - b)) (8 * (end - at)) (joined (segmentUnits s at) (joinedUnits s end m b)) (omega (arith, q, h))
     (joined-few _ _ (segmentUnits s at) (joinedUnits s end m b) (segment-few s at) (rest b (q .1)))
 
 all-few : (s : List ℕ) (end m at : ℕ) → at ≤ end → Few (8 * (end - at)) (joinedUnits s end m at)

@@ -19,13 +19,17 @@ use Rattle.row.proofs.RowLaws.{sets-append}
 use Rattle.format.specs.Formats.{walks}
 use Rattle.format.proofs.FieldLaws.{fields-end}
 use Rattle.strings.specs.Strings.{segment}
-use Rattle.text.specs.declared.answer.Answer.{Answer}
-use Rattle.text.specs.declared.answer.Answer.the-variants.{Value, Refused}
+use Rattle.text.specs.declared.answer.Number.{Number}
+use Rattle.text.specs.declared.answer.Number.the-variants.{Value, Refused}
+use Rattle.text.specs.declared.answer.Units.{Units}
+use Rattle.text.specs.declared.answer.Units.the-variants as amounts
+use Rattle.text.specs.Answers.{amountOf}
 use Rattle.text.specs.Segments.{segmentUnits}
 use Rattle.text.specs.Strings.{standing, joined, joinedUnits}
 use Rattle.refusal.specs.Outputs.{counted}
-use Rattle.text.specs.Inner.{stored, Wrote, WroteAll}
+use Rattle.text.specs.Inner.{plainUnits, joinedOf, joinedPlain, stored, Wrote, WroteAll}
 use Rattle.refusal.proofs.OutputLaws.{from-number, from-refusal}
+use Rattle.text.proofs.AmountLaws.{amount-refused, amount-counted}
 
 -- ---- the walk past one segment
 pub many-once : (p : ℕ → Walk) (at : ℕ) → many p 1 at ≡ p at
@@ -68,25 +72,50 @@ unfolding joined after
 joined-refused x y q e = rw e
 
 -- ---- one segment more
-units-step : (s : List ℕ) (end left at : ℕ) → 0 < left
-    → joinedUnits s end left at ≡ after (standing (walks segment s end at)) (λ b. joined (segmentUnits s at) (joinedUnits s end (left - 1) b))
-unfolding joinedUnits
-units-step s end zero at h = absurd (omega arith)
-units-step s end (suc m) at h = rw sub-one
+module _ (told : ℕ → Outcome (List ℕ)) (s : List ℕ) (end : ℕ) where
+  of-step : (left at : ℕ) → 0 < left
+      → joinedOf told s end left at ≡ after (standing (walks segment s end at)) (λ b. joined (told at) (joinedOf told s end (left - 1) b))
+  unfolding joinedOf
+  of-step zero at h = absurd (omega arith)
+  of-step (suc m) at h = rw sub-one
+
+  module _ (left at : ℕ) where
+    pub of-none : left ≡ 0 → joinedOf told s end left at ≡ result []
+    unfolding joinedOf
+    of-none e = rw e
+
+    pub of-bad : (x : ℕ) → 0 < left → walks segment s end at ≡ Bad x → joinedOf told s end left at ≡ refused 9
+    unfolding standing after
+    of-bad x h e = of-step left at h ∙ rw e
+
+    pub of-on : (b : ℕ) → 0 < left → walks segment s end at ≡ To b → joinedOf told s end left at ≡ joined (told at) (joinedOf told s end (left - 1) b)
+    unfolding standing after
+    of-on b h e = of-step left at h ∙ rw e
+
+of-units : (s : List ℕ) (end m at : ℕ) → joinedOf (segmentUnits s) s end m at ≡ joinedUnits s end m at
+unfolding joinedOf joinedUnits
+of-units s end zero at = refl
+of-units s end (suc m) at = λ i. after (standing (walks segment s end at)) (λ b. joined (segmentUnits s at) (of-units s end m b i))
 
 module _ (s : List ℕ) (end left at : ℕ) where
   pub units-none : left ≡ 0 → joinedUnits s end left at ≡ result []
-  unfolding joinedUnits
-  units-none e = rw e
+  units-none e = sym (of-units s end left at) ∙ of-none (segmentUnits s) s end left at e
 
   pub units-bad : (x : ℕ) → 0 < left → walks segment s end at ≡ Bad x → joinedUnits s end left at ≡ refused 9
-  unfolding standing after
-  units-bad x h e = units-step s end left at h ∙ rw e
+  units-bad x h e = sym (of-units s end left at) ∙ of-bad (segmentUnits s) s end left at x h e
 
   pub units-on : (b : ℕ) → 0 < left → walks segment s end at ≡ To b
       → joinedUnits s end left at ≡ joined (segmentUnits s at) (joinedUnits s end (left - 1) b)
-  unfolding standing after
-  units-on b h e = units-step s end left at h ∙ rw e
+  units-on b h e =
+      sym (of-units s end left at) ∙ of-on (segmentUnits s) s end left at b h e ∙ ap (joined (segmentUnits s at)) (of-units s end (left - 1) b)
+
+-- ---- where no segment is compressed the plain bytes are all
+pub all-plain : (s : List ℕ) (end left at b : ℕ) → 0 < left → walks segment s end at ≡ To b → plainUnits s at ≡ segmentUnits s at
+    → joinedPlain s end (left - 1) b ≡ joinedUnits s end (left - 1) b → joinedPlain s end left at ≡ joinedUnits s end left at
+all-plain s end left at b h w e f = of-on (plainUnits s) s end left at b h w ∙ (λ i. joined (e i) (f i)) ∙ sym (units-on s end left at b h w)
+
+pub plain-wrote : {x y : Outcome (List ℕ)} {p : ℕ} {l : List ℕ} {r : Units} {e : List ℕ} → x ≡ y → WroteAll x p l r e → WroteAll y p l r e
+plain-wrote q w = rw q at w
 
 -- ---- the loop: of the units x, with the output l₀ at first, the units y are left, with n units stored in l
 pub record Going (x : Outcome (List ℕ)) (l₀ : List ℕ) (m : ℕ) (y : Outcome (List ℕ)) (l : List ℕ) (left n : ℕ) : Type 0 where
@@ -105,24 +134,24 @@ going-first x l m = record {
   long = refl;
 }
 
-pub wrote-few : {z : Outcome (List ℕ)} {l : List ℕ} {n : ℕ} {u : Answer} {e : List ℕ} (k : ℕ) → Wrote z l n u e → u ≡ Value k → k ≤ 2040
+pub wrote-few : {z : Outcome (List ℕ)} {l : List ℕ} {n : ℕ} {u : Number} {e : List ℕ} (k : ℕ) → Wrote z l n u e → u ≡ Value k → k ≤ 2040
 wrote-few {z} {l} {n} {u} {e} k w q =
     let v : Wrote z l n (Value k) e = rw q at w in
     let f = from-number z k (v .answers) in
     omega (arith, v .few (f .0) (f .1 .0), f .1 .1)
 
 module _ {x : Outcome (List ℕ)} {l₀ : List ℕ} {m : ℕ} {y : Outcome (List ℕ)} {l : List ℕ} {left n : ℕ} (g : Going x l₀ m y l left n) where
-  pub going-refused : (r : Refusal) (e : List ℕ) → y ≡ refused (numberOf r) → WroteAll x l₀ (Refused r) e
+  pub going-refused : (p : ℕ) (r : Refusal) (e : List ℕ) → y ≡ refused (numberOf r) → WroteAll x p l₀ (amounts.Refused r) e
   unfolding countedFrom after
-  going-refused r e q = record {
-    answers = rw q at (g .answers);
+  going-refused p r e q = record {
+    answers = sym (ap (amountOf p) (from-refusal x (numberOf r) (rw q at (g .answers))) ∙ amount-refused p (numberOf r));
     stores = λ us u. not-both (numberOf r) (g .stores us u .0) (sym q ∙ g .stores us u .1 .0);
   }
 
-  pub going-done : y ≡ result [] → WroteAll x l₀ (Value n) l
+  pub going-done : (p : ℕ) → p ≡ 0 → y ≡ result [] → WroteAll x p l₀ (amounts.Are (record { units = n; replaced = 0 })) l
   unfolding countedFrom after
-  going-done q = record {
-    answers = ap result (sym (add-zero n)) ∙ (rw q at (g .answers));
+  going-done p none q = record {
+    answers = amount-counted p x n none (ap result (sym (add-zero n)) ∙ (rw q at (g .answers)));
     stores = λ us u.
         let v = g .stores us u in
         let e : [] ≡ v .0 = same-result [] (v .0) (sym q ∙ v .1 .0) in
@@ -130,10 +159,10 @@ module _ {x : Outcome (List ℕ)} {l₀ : List ℕ} {m : ℕ} {y : Outcome (List
   }
 
   module _ (z y′ : Outcome (List ℕ)) (l′ : List ℕ) (j : y ≡ joined z y′) where
-    pub going-stop : (u : Answer) (r : Refusal) → Wrote z l n u l′ → u ≡ Refused r → WroteAll x l₀ u l′
-    going-stop u r w q =
+    pub going-stop : (p : ℕ) (u : Number) (r : Refusal) → Wrote z l n u l′ → u ≡ Refused r → WroteAll x p l₀ (amounts.Refused r) l′
+    going-stop p u r w q =
         let e : z ≡ refused (numberOf r) = from-refusal z (numberOf r) (rw q at (w .answers)) in
-        rw q (going-refused r l′ (j ∙ joined-refused z y′ (numberOf r) e))
+        going-refused p r l′ (j ∙ joined-refused z y′ (numberOf r) e)
 
     pub going-next : (us : List ℕ) (k : ℕ) → 0 < left → z ≡ result us → k ≡ length us → length us ≤ 2040 → l′ ≡ sets l n us
         → Going x l₀ m y′ l′ (left - 1) (n + k)
@@ -150,7 +179,7 @@ module _ {x : Outcome (List ℕ)} {l₀ : List ℕ} {m : ℕ} {y : Outcome (List
           long = ap length e ∙ length-sets l n us ∙ g .long;
         }
 
-    pub going-on : (k : ℕ) (u : Answer) → 0 < left → Wrote z l n u l′ → u ≡ Value k → Going x l₀ m y′ l′ (left - 1) (n + k)
+    pub going-on : (k : ℕ) (u : Number) → 0 < left → Wrote z l n u l′ → u ≡ Value k → Going x l₀ m y′ l′ (left - 1) (n + k)
     unfolding stored
     going-on k u h w q =
         let v : Wrote z l n (Value k) l′ = rw q at w in

@@ -1,4 +1,5 @@
 pub mod UnitLaws
+pub mod AmountLaws
 pub mod JoinLaws
 pub mod TextLaws
 pub mod SoundLaws

@@ -17,10 +17,11 @@ use Rattle.format.specs.Laws.OfBytes.{lies-split, fields-fit}
 use Rattle.format.specs.Laws.OfValues.{bytes-length}
 use Rattle.format.specs.Told.{told-there, last-tells}
 use Rattle.strings.specs.Strings.{SegmentFields, StringFields, segment, string}
-use Rattle.text.specs.Segments.{wayOf, segmentUnits}
-use Rattle.text.specs.Strings.{standing, headingBefore, joined, joinedUnits}
-use Rattle.text.specs.Values.{segmentFor, segmentsFor, headingFor, ofString}
+use Rattle.text.specs.Segments.{wayOf, segmentUnits, replacedBy, segmentReplaced}
+use Rattle.text.specs.Strings.{standing, headingBefore, joined, joinedUnits, joinedReplaced}
+use Rattle.text.specs.Values.{segmentFor, segmentsFor, replacedFor, headingFor, ofString}
 use Rattle.text.proofs.UnitLaws.{units-at}
+use Rattle.text.proofs.AmountLaws.{told-result}
 use Rattle.text.proofs.TextLaws.{standing-to}
 
 -- ---- the parts of a text where they lie
@@ -30,28 +31,34 @@ module _ (s : List ℕ) (z : Bytes s) where
   byte-field a i j e = all-at s a i j e 8 (byte-bits s i (z i))
 
   segment-there : (a : ℕ) (g : SegmentFields)
-      → unfold segment in (segment .Ok (record {}) g → Lies (segment .enc g) s a → segmentUnits s a ≡ segmentFor g)
-  unfolding segment
+      → unfold segment in (segment .Ok (record {}) g → Lies (segment .enc g) s a
+      → (segmentUnits s a ≡ segmentFor g) × (segmentReplaced s a ≡ replacedBy (wayOf (g .compression) (g .mode))))
+  unfolding segment segmentReplaced
   segment-there a g o l =
       let t = told-there (bits 8 ∷ bits 8 ∷ []) 8 3 refl last (λ v m. m) (last-tells (bits 8 ∷ bits 8 ∷ []) 2 refl) (raw 1) (λ x. length x)
       (λ v m x o. o .0) s a (g .compression, (g .mode, record {})) (g .bytes) o l in
       let c = byte-field a a 0 (omega arith) ∙ ap (λ v. v .0) (t .0 .0) in
       let m = byte-field a (a + 1) 1 refl ∙ ap (λ v. v .1 .0) (t .0 .0) in
-      let n = byte-field a (a + 2) 2 refl ∙ t .0 .1 in
-      sym (units-at s (g .bytes) a _ _ _ (wayOf (g .compression) (g .mode)) (sym c) (sym m) (sym n) refl (sym (t .1)))
+      let n = byte-field a (a + 2) 2 refl ∙ t .0 .1 in (
+        sym (units-at s (g .bytes) a _ _ _ (wayOf (g .compression) (g .mode)) (sym c) (sym m) (sym n) refl (sym (t .1))),
+        λ i. replacedBy (wayOf (c i) (m i)),
+      )
 
   pub segments-there : (end a : ℕ) (gs : List SegmentFields)
       → unfold segment in (All (segment .Ok (record {})) gs → Lies (encs (segment .enc) gs) s a → a + length (encs (segment .enc) gs) ≤ end
-      → joinedUnits s end (length gs) a ≡ segmentsFor gs)
-  unfolding segment joinedUnits segmentsFor
-  segments-there end a [] o l h = refl
+      → (joinedUnits s end (length gs) a ≡ segmentsFor gs) × (joinedReplaced s end (length gs) a ≡ replacedFor gs))
+  unfolding segment joinedUnits segmentsFor joinedReplaced replacedFor
+  segments-there end a [] o l h = (refl, refl)
   segments-there end a (g ∷ gs) o l h =
       let i = lies-split (segment .enc g) (encs (segment .enc) gs) s a l in
       let n = length-append (segment .enc g) (encs (segment .enc) gs) in
       let w = segment .law (record {}) .sound s end a g (o .0) (i .0) (omega arith) in
       let u = segment-there a g (o .0) (i .0) in
       let v = segments-there end (a + length (segment .enc g)) gs (o .1) (i .1) (omega arith) in
-      after-result (standing (walks segment s end a)) _ _ (sym (standing-to _ _ w)) ∙ (λ j. joined (u j) (v j))
+      let b = sym (standing-to _ _ w) in (
+        after-result (standing (walks segment s end a)) _ _ b ∙ (λ j. joined (u .0 j) (v .0 j)),
+        told-result (standing (walks segment s end a)) _ _ b ∙ (λ j. u .1 j + v .1 j),
+      )
 
   -- the head of a string, and that its segments lie behind it
   pub string-there : (b : ℕ) (x : StringFields)

@@ -5,27 +5,21 @@ use mathlib.Core.List.{List, [], _∷_}
 use Prim.Native.Nat.{ℕ, zero, suc, _+_, _*_, _/_, _%_, _<_, _≤_}
 use native.Mathlib.Omega.{arith}
 use lib.ListN.{length, getD, take, drop, length-take}
-use lib.Seq.{sets, take-all}
+use lib.Seq.{sets, set-out, take-all}
 use Rattle.bytes_at.specs.Fields.{byteAt}
 use Rattle.logic.proofs.ChoiceLaws.{eq-yes, eq-no}
 use Rattle.refusal.specs.Numbers.{numberOf}
 use Rattle.refusal.specs.Outcomes.{Outcome, refused, result}
 use Rattle.refusal.specs.declared.Refusal.{Refusal}
 use Rattle.refusal.proofs.OutcomeLaws.{same-result, not-both}
-use Rattle.annex_c.specs.Codes.{Reading}
-use Rattle.segment.specs.declared.Judged.{Judged}
-use Rattle.segment.specs.declared.Judged.the-variants.{Units, Refused}
-use Rattle.segment.specs.Bits.{bits}
-use Rattle.segment.specs.Text.{Text, done, unit, units, judged, written}
+use Rattle.segment.specs.declared.Judged.the-variants.{Refused}
+use Rattle.segment.specs.Text.{Text, done, unit, judged}
 use Rattle.segment.specs.Text as texts
-use Rattle.segment.specs.Segment.{segmentText}
-use Rattle.segment.proofs.BitLaws.{length-bits}
-use Rattle.segment.proofs.TextLaws.{Fits, fits-count, written-units, written-refused}
-use Rattle.segment.proofs.SegmentLaws.{coded-fits}
-use Rattle.text.specs.declared.answer.Answer.the-variants as answers
+use Rattle.segment.proofs.TextLaws.{Fits}
+use Rattle.text.specs.declared.answer.Number.the-variants as answers
 use Rattle.text.specs.declared.segments.Way.{Way}
-use Rattle.text.specs.Segments.{wayOf, pairs, utf16Units, textUnits, unitsBy, segmentUnits}
-use Rattle.text.specs.Inner.{plain, stored, Wrote}
+use Rattle.text.specs.Segments.{wayOf, pairs, utf16Units, unitsBy, segmentUnits}
+use Rattle.text.specs.Inner.{plain, plainBy, plainUnits, stored, Wrote}
 use Rattle.refusal.proofs.OutputLaws.{counted-result, counted-refused}
 
 -- ---- pairs of bytes
@@ -76,40 +70,18 @@ wrote-refused x l n r e q w = record {
 pub all-of : (l us : List ℕ) (n k : ℕ) (e : List ℕ) → length us ≤ k → e ≡ sets l n (take k us) → e ≡ sets l n us
 all-of l us n k e h w = rw (take-all k us h) at w
 
--- ---- compressed segments
-judged-count : (n k : ℕ) (x : Text) → judged n x ≡ Units k → k ≡ n + length (units x)
-unfolding judged units
-judged-count n k done e = let q : n ≡ k = cc in omega arith
-judged-count n k (texts.refused j) e = let z : _≡_ {A = ℕ} 0 1 = cc in absurd (omega arith)
-judged-count n k (unit u x) e = omega (arith, judged-count (n + 1) k x e)
+-- nothing is stored past the end
+pub stored-past : (l us : List ℕ) (n : ℕ) → length l ≤ n → l ≡ sets l n us
+stored-past l [] n h = refl
+stored-past l (u ∷ us) n h = stored-past l us (suc n) (omega arith) ∙ ap (λ (m : List ℕ). sets m (suc n) us) (sym (set-out l n u h))
 
+-- ---- a compressed segment is refused by 11 only
 pub judged-refusal : (m n k : ℕ) (x : Text) → Fits m x → judged n x ≡ Refused k → k ≡ 11
 unfolding judged
 judged-refusal m n k done f e = let z : _≡_ {A = ℕ} 0 1 = cc in absurd (omega arith)
 judged-refusal m n k (texts.refused j) f e = let q : j ≡ k = cc in omega arith
 judged-refusal zero n k (unit u x) f e = absurd f
 judged-refusal (suc m) n k (unit u x) f e = judged-refusal m (n + 1) k x f e
-
-module _ (read : ℕ → List ℕ → Reading) (s : List ℕ) (short : length s ≤ 255) (l e : List ℕ) (n k : ℕ) (j : Judged)
-    (a : j ≡ judged 0 (segmentText read s)) (w : e ≡ written l n (segmentText read s)) where
-  fits : Fits (length (bits s)) (segmentText read s)
-  unfolding segmentText
-  fits = coded-fits read (length (bits s)) 0 (bits s)
-
-  pub wrote-text : j ≡ Units k → Wrote (textUnits (segmentText read s)) l n (answers.Value k) e
-  unfolding textUnits
-  wrote-text q =
-      let d : judged 0 (segmentText read s) ≡ Units k = sym a ∙ q in
-      let b : length (units (segmentText read s)) ≤ 2040 = omega (arith, fits-count (length (bits s)) (segmentText read s) fits, length-bits s) in
-      wrote-units (textUnits (segmentText read s)) l n k (units (segmentText read s)) e (rw (textUnits, d))
-      (omega (arith, judged-count 0 k (segmentText read s) d)) b (w ∙ written-units l n k (segmentText read s) d)
-
-  pub wrote-broken : (r : Refusal) → numberOf r ≡ 11 → j ≡ Refused k → Wrote (textUnits (segmentText read s)) l n (answers.Refused r) e
-  unfolding textUnits
-  wrote-broken r v q =
-      let d : judged 0 (segmentText read s) ≡ Refused k = sym a ∙ q in
-      let b : k ≡ numberOf r = judged-refusal (length (bits s)) 0 k (segmentText read s) fits d ∙ sym v in
-      wrote-refused (textUnits (segmentText read s)) l n r e (rw (textUnits, d, b)) (w ∙ written-refused l n k (segmentText read s) d)
 
 -- ---- plain bytes, one or two a unit
 module _ (wide : Bool) (s : List ℕ) (i : ℕ) (h : i < length (plain wide s)) where
@@ -137,3 +109,16 @@ pub units-at : (s p : List ℕ) (at c m n : ℕ) (w : Way) → c ≡ byteAt s at
     → p ≡ take n (drop (at + 3) s) → unitsBy w p ≡ segmentUnits s at
 unfolding segmentUnits
 units-at s p at c m n w a b d e f = rw (e, f, a, b, d)
+
+pub plain-at : (s p : List ℕ) (at c m n : ℕ) (w : Way) → c ≡ byteAt s at → m ≡ byteAt s (at + 1) → n ≡ byteAt s (at + 2) → w ≡ wayOf c m
+    → p ≡ take n (drop (at + 3) s) → plainBy w p ≡ plainUnits s at
+unfolding plainUnits
+plain-at s p at c m n w a b d e f = rw (e, f, a, b, d)
+
+-- a segment that is not compressed
+pub plain-same : (s : List ℕ) (at c m : ℕ) (w : Way) → c ≡ byteAt s at → m ≡ byteAt s (at + 1) → w ≡ wayOf c m
+    → ((b : List ℕ) → plainBy w b ≡ unitsBy w b) → plainUnits s at ≡ segmentUnits s at
+unfolding plainUnits segmentUnits
+plain-same s at c m w a b e f =
+    let q : w ≡ wayOf (byteAt s at) (byteAt s (at + 1)) = rw (a, b) at e in
+    rw q at (f (take (byteAt s (at + 2)) (drop (at + 3) s)))

@@ -20,9 +20,10 @@ use Rattle.format.specs.Laws.OfValues.{bytes-length}
 use Rattle.format.proofs.SizedLaws.{counted8-there}
 use Rattle.format.proofs.RelocationLaws.{own-bytes}
 use Rattle.strings.specs.Strings.{StringFields, segment, string, structure, text, stringsOf}
-use Rattle.text.specs.Strings.{stringCount, stringAt, joinedUnits, stringUnits, stringHeading}
+use Rattle.text.specs.Strings.{stringCount, stringAt, joinedUnits, stringUnits, toldFrom, joinedReplaced, stringReplaced, stringHeading}
 use Rattle.text.specs.Texts.{ofField, fieldCount, fieldUnits, fieldHeading}
-use Rattle.text.specs.Values.{ofString, headingOf, unitsOf}
+use Rattle.text.specs.Values.{ofString, headingOf, unitsOf, replacedOf}
+use Rattle.text.proofs.AmountLaws.{told-after}
 use Rattle.text.proofs.TextLaws.{field-sound, field-bad}
 use Rattle.text.proofs.ThereLaws.{segments-there, string-there, string-long, Agrees, there-told, none-told}
 
@@ -70,8 +71,21 @@ module _ (s : List ℕ) (z : Bytes s) (end at : ℕ) (t : text .Val) (o : text .
       (λ b x p i h.
       let y = string-there s z b x p i in
       let n = string-long x in
-      ap (λ g. joinedUnits s end (g .segments) (b + 4)) (y .0) ∙ segments-there s z end (b + 4) (x .segments) (p .1 .1 .1) (y .1) (omega arith))
+      ap (λ g. joinedUnits s end (g .segments) (b + 4)) (y .0) ∙ segments-there s z end (b + 4) (x .segments) (p .1 .1 .1) (y .1) (omega arith) .0)
       k
+
+  pub replaced-told : (k : ℕ) → stringReplaced s end at k ≡ replacedOf (stringsOf t) k
+  unfolding segment string stringReplaced
+  replaced-told k =
+      told-after (stringAt s end at k) _
+      ∙ ap (λ x. toldFrom x (λ n. n))
+      (string-told _ _
+      (λ b x p i h.
+      let y = string-there s z b x p i in
+      let n = string-long x in
+      ap (λ g. result (joinedReplaced s end (g .segments) (b + 4))) (y .0)
+      ∙ ap result (segments-there s z end (b + 4) (x .segments) (p .1 .1 .1) (y .1) (omega arith) .1))
+      k)
 
 -- ---- a field alone
 module _ (t : text .Val) (o : text .Ok (record {}) t) where
@@ -86,6 +100,9 @@ module _ (t : text .Val) (o : text .Ok (record {}) t) where
 
   pub units-is : (k : ℕ) → stringUnits (text .enc t) (length (text .enc t)) 0 k ≡ unitsOf (stringsOf t) k
   units-is = units-told (text .enc t) text-bytes _ 0 t o (take-length (text .enc t)) (omega arith)
+
+  pub replaced-is : (k : ℕ) → stringReplaced (text .enc t) (length (text .enc t)) 0 k ≡ replacedOf (stringsOf t) k
+  replaced-is = replaced-told (text .enc t) text-bytes _ 0 t o (take-length (text .enc t)) (omega arith)
 
   -- it is not refused by 9
   not-nine : {A : Type 0} (x : Outcome A) → ofField (text .enc t) x ≡ x

@@ -1,12 +1,12 @@
 -- What is answered for a text, by the strings and segments of its value.
-use Prim.Native.Nat.{ℕ, zero, suc}
+use Prim.Native.Nat.{ℕ, zero, suc, _+_}
 use mathlib.Core.List.{List, [], _∷_}
 use lib.ListN.{length}
 use Rattle.refusal.specs.Outcomes.{Outcome, refused, result}
 use Rattle.strings.specs.Strings.{SegmentFields, StringFields}
 use Rattle.text.specs.declared.answer.Heading.{Heading}
-use Rattle.text.specs.Segments.{wayOf, unitsBy}
-use Rattle.text.specs.Strings.{joined}
+use Rattle.text.specs.Segments.{wayOf, unitsBy, replacedBy}
+use Rattle.text.specs.Strings.{joined, toldFrom}
 
 -- the units of a segment, by its compression and mode
 abbrev pub segmentFor : SegmentFields → Outcome (List ℕ)
@@ -16,6 +16,11 @@ segmentFor g = unitsBy (wayOf (g .compression) (g .mode)) (g .bytes)
 unfoldable pub segmentsFor : List SegmentFields → Outcome (List ℕ)
 segmentsFor [] = result []
 segmentsFor (g ∷ gs) = joined (segmentFor g) (segmentsFor gs)
+
+-- how many of them are replaced
+unfoldable pub replacedFor : List SegmentFields → ℕ
+replacedFor [] = 0
+replacedFor (g ∷ gs) = replacedBy (wayOf (g .compression) (g .mode)) + replacedFor gs
 
 -- language and number_segments of a string
 abbrev pub headingFor : StringFields → Heading
@@ -33,3 +38,7 @@ headingOf ss k = ofString (λ x. result (headingFor x)) ss k
 
 abbrev pub unitsOf : List StringFields → ℕ → Outcome (List ℕ)
 unitsOf ss k = ofString (λ x. segmentsFor (x .segments)) ss k
+
+-- how many segments of string k are replaced; 0 where there is none
+abbrev pub replacedOf : List StringFields → ℕ → ℕ
+replacedOf ss k = toldFrom (ofString (λ x. result (replacedFor (x .segments))) ss k) (λ n. n)

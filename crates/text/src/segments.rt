@@ -1,23 +1,23 @@
-// The segments of a string. A segment is judged and written by the same code: what has no room is not written, so judging is
-// writing into an output of no use.
-use crate::answer::Answer;
+// Plain segments. They are judged and written by the same code: what has no room is not written, so judging is writing into an
+// output of nothing, and reads no byte but those of the heads.
+use crate::answer::Amount;
+use crate::answer::Number;
+use crate::answer::Units;
 use bytes_at::Walk;
 use bytes_at::byte;
 use part::part_of;
 use refusal::Refusal;
-use segment::Judged;
 use segment::inner::put_unit;
 ghost use mathlib.Core.Path.{_≡_};
-ghost use Prim.Native.Nat.{_+_, _*_, _^_, _<_, _≤_};
+ghost use mathlib.Core.Bool.{false};
+ghost use mathlib.Core.List.{List};
+ghost use Prim.Native.Nat.{ℕ, _+_, _*_, _^_, _<_, _≤_};
 ghost use lib.ListN.{length, getD, take};
 ghost use lib.Seq.{sets};
 ghost use Rattle.refusal.specs.Outcomes.{result};
-ghost use Rattle.annex_c.specs.Tree.{walked};
-ghost use Rattle.trees.specs.Which.{tableOf};
-ghost use Rattle.segment.specs.Segment.{segmentText};
-ghost use Rattle.text.specs.Segments.{wayOf, utf16Units, textUnits, unitsBy, segmentUnits};
-ghost use Rattle.text.specs.Strings.{joinedUnits};
-ghost use Rattle.text.specs.Inner.{plain, Wrote, WroteAll};
+ghost use Rattle.text.specs.Segments.{wayOf, utf16Units, unitsBy, segmentUnits};
+ghost use Rattle.text.specs.Strings.{joinedUnits, joinedReplaced};
+ghost use Rattle.text.specs.Inner.{plain, plainBy, plainUnits, joinedPlain, Wrote, WroteAll};
 
 // How a segment is read.
 pub enum Way {
@@ -77,6 +77,9 @@ fn store(s: &[u8], wide: bool, k: usize, out: &mut [u16], n: usize)
     requires { ⌜ (length (now s) ≤ 255) × (k ≤ length (plain wide (now s))) ⌝ }
     ensures { λ _. ⌜ now (out .exit) ≡ sets (now (out .entry)) n (take k (plain wide (now (s .entry)))) ⌝ }
 {
+    if out.len() <= n {
+        return;
+    }
     let mut i = 0;
     while i < k {
         put_unit(out, n, i, unit_at(s, wide, i));
@@ -85,64 +88,53 @@ fn store(s: &[u8], wide: bool, k: usize, out: &mut [u16], n: usize)
 }
 
 // Bytes that are units.
-pub fn bytes(s: &[u8], out: &mut [u16], n: usize) -> Answer
+pub fn bytes(s: &[u8], out: &mut [u16], n: usize) -> Number
     requires { ⌜ length (now s) ≤ 255 ⌝ }
     ensures { λ r. ⌜ Wrote (result (now (s .entry))) (now (out .entry)) n r (now (out .exit)) ⌝ }
 {
     store(s, false, s.len(), out, n);
-    Answer::Value(s.len())
+    Number::Value(s.len())
 }
 
-pub fn utf16(s: &[u8], out: &mut [u16], n: usize) -> Answer
+pub fn utf16(s: &[u8], out: &mut [u16], n: usize) -> Number
     requires { ⌜ length (now s) ≤ 255 ⌝ }
     ensures { λ r. ⌜ Wrote (utf16Units (now (s .entry))) (now (out .entry)) n r (now (out .exit)) ⌝ }
 {
     if s.len() % 2 != 0 {
-        return Answer::Refused(Refusal::BrokenText);
+        return Number::Refused(Refusal::BrokenText);
     }
     store(s, true, s.len() / 2, out, n);
-    Answer::Value(s.len() / 2)
+    Number::Value(s.len() / 2)
 }
 
-// A compressed segment.
-fn compressed(titles: bool, s: &[u8], out: &mut [u16], n: usize) -> Answer
+// One plain segment: its units from place n of the output on, and how many they are.
+fn plain_one(way: Way, s: &[u8], out: &mut [u16], n: usize) -> Number
     requires { ⌜ length (now s) ≤ 255 ⌝ }
-    ensures { λ r. ⌜ Wrote (textUnits (segmentText (walked (tableOf titles)) (now (s .entry)))) (now (out .entry)) n r (now (out .exit)) ⌝ }
-{
-    match segment::write(titles, s, out, n) {
-        Judged::Units(k) => Answer::Value(k),
-        Judged::Refused(_) => Answer::Refused(Refusal::BrokenText),
-    }
-}
-
-// One segment: its units from place n of the output on, and how many they are.
-fn one_segment(way: Way, s: &[u8], out: &mut [u16], n: usize) -> Answer
-    requires { ⌜ length (now s) ≤ 255 ⌝ }
-    ensures { λ r. ⌜ Wrote (unitsBy way (now (s .entry))) (now (out .entry)) n r (now (out .exit)) ⌝ }
+    ensures { λ r. ⌜ Wrote (plainBy way (now (s .entry))) (now (out .entry)) n r (now (out .exit)) ⌝ }
 {
     match way {
         Way::Bytes => bytes(s, out, n),
         Way::Utf16 => utf16(s, out, n),
-        Way::Titles => compressed(true, s, out, n),
-        Way::Descriptions => compressed(false, s, out, n),
-        Way::Unread => Answer::Refused(Refusal::NotAReadPair),
+        Way::Titles => Number::Refused(Refusal::NotAReadPair),
+        Way::Descriptions => Number::Refused(Refusal::NotAReadPair),
+        Way::Unread => Number::Refused(Refusal::NotAReadPair),
     }
 }
 
 // The segment whose head begins at `at`.
-fn segment_at(s: &[u8], at: usize, out: &mut [u16], n: usize) -> Answer
+fn plain_at(s: &[u8], at: usize, out: &mut [u16], n: usize) -> Number
     requires { ⌜ at + 3 < 2 ^ 64 ⌝ }
-    ensures { λ r. ⌜ Wrote (segmentUnits (now (s .entry)) at) (now (out .entry)) n r (now (out .exit)) ⌝ }
+    ensures { λ r. ⌜ Wrote (plainUnits (now (s .entry)) at) (now (out .entry)) n r (now (out .exit)) ⌝ }
 {
     let w = way_of(byte(s, at), byte(s, at + 1));
     let bytes = part_of(s, at + 3, byte(s, at + 2));
-    one_segment(w, bytes, out, n)
+    plain_one(w, bytes, out, n)
 }
 
 // m segments from a place on, joined, from the output's start on.
-pub fn all_segments(s: &[u8], end: usize, m: usize, from: usize, out: &mut [u16]) -> Answer
+pub fn plain_segments(s: &[u8], end: usize, m: usize, from: usize, out: &mut [u16]) -> Units
     requires { ⌜ m < 256 ⌝ }
-    ensures { λ r. ⌜ WroteAll (joinedUnits (now (s .entry)) end m from) (now (out .entry)) r (now (out .exit)) ⌝ }
+    ensures { λ r. ⌜ WroteAll (joinedPlain (now (s .entry)) end m from) (joinedReplaced (now (s .entry)) end m from) (now (out .entry)) r (now (out .exit)) ⌝ }
 {
     let mut at = from;
     let mut left = m;
@@ -150,15 +142,57 @@ pub fn all_segments(s: &[u8], end: usize, m: usize, from: usize, out: &mut [u16]
     while 0 < left {
         let w = strings::segments(s, end, 1, at);
         let Walk::To(b) = w else {
-            return Answer::Refused(Refusal::Body);
+            return Units::Refused(Refusal::Body);
         };
-        let u = segment_at(s, at, out, n);
-        let Answer::Value(k) = u else {
-            return u;
+        match plain_at(s, at, out, n) {
+            Number::Refused(r) => return Units::Refused(r),
+            Number::Value(k) => {
+                at = b;
+                n += k;
+                left -= 1;
+            }
+        }
+    }
+    Units::Are(Amount {
+        units: n,
+        replaced: 0,
+    })
+}
+
+fn is_compressed(way: Way) -> bool
+    ensures { λ r. ⌜ ((r ≡ false) → (b : List ℕ) → plainBy way b ≡ unitsBy way b) ⌝ }
+{
+    match way {
+        Way::Bytes => false,
+        Way::Utf16 => false,
+        Way::Titles => true,
+        Way::Descriptions => true,
+        Way::Unread => false,
+    }
+}
+
+fn compressed_at(s: &[u8], at: usize) -> bool
+    requires { ⌜ at + 3 < 2 ^ 64 ⌝ }
+    ensures { λ r. ⌜ ((r ≡ false) → plainUnits (now (s .entry)) at ≡ segmentUnits (now (s .entry)) at) ⌝ }
+{
+    is_compressed(way_of(byte(s, at), byte(s, at + 1)))
+}
+
+// Whether one of m segments from a place on is compressed, as far as they lie in the field. Without one the plain bytes are all.
+pub fn any_compressed(s: &[u8], end: usize, m: usize, from: usize) -> bool
+    ensures { λ r. ⌜ ((r ≡ false) → joinedPlain (now (s .entry)) end m from ≡ joinedUnits (now (s .entry)) end m from) ⌝ }
+{
+    let mut at = from;
+    let mut left = m;
+    while 0 < left {
+        let Walk::To(b) = strings::segments(s, end, 1, at) else {
+            return false;
         };
+        if compressed_at(s, at) {
+            return true;
+        }
         at = b;
-        n += k;
         left -= 1;
     }
-    Answer::Value(n)
+    false
 }

@@ -1,7 +1,8 @@
 -- `string_units` meets its contract: where the text stands, then its bytes.
 use Rattle.refusal.specs.Outcomes.{after}
-use Rattle.refusal.specs.Outputs.{counted}
-use Rattle.section_text.specs.Texts.{textUnits}
+use Rattle.text.specs.Answers.{amountOf}
+use Rattle.text.specs.Strings.{toldFrom}
+use Rattle.section_text.specs.Texts.{textUnits, textReplaced}
 use borrow.Author.Needs.{needs}
 use Rattle.section_text.proofs.string_units.Statement.{statement}
 use Rattle.section_text.proofs.string_units.Tie as tie
@@ -22,11 +23,11 @@ string-units-requires : tie.Need-string-units-requires
 string-units-requires c κs = search needs
 
 returns : tie.Need-returns
-unfolding textUnits counted after
+unfolding textUnits textReplaced toldFrom amountOf after
 returns c = rw (← c .before .before .before .field-of .ensures, c .before .r .given .1)
 
 returns-2 : tie.Need-returns-2
-unfolding textUnits after
+unfolding textUnits textReplaced toldFrom after
 returns-2 c = let h = c .before .before .before in
     rw (← h .before .before .field-of .ensures, h .p .given .1, ← c .before .part-of .ensures) (c .string-units .ensures)
 

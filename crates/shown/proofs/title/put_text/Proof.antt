@@ -17,7 +17,7 @@ put-answer-requires c κs =
     let w = c .before .before .before in
     let a = w .before .before .before .before .before .args in
     let x = stringUnits (a .s .now) (a .p .start + a .p .length) (a .p .start) 0 in
-    told-is x (w .string-read .result) (a .units .now) _ (w .before .before .before .before .before .pre .1 .1) (w .string-read .ensures) .0
+    told-is x _ (w .string-read .result) (a .units .now) _ (w .before .before .before .before .before .pre .1 .1) (w .string-read .ensures) .0
 
 same-length : tie.Need-same-length
 same-length c = search needs
@@ -27,7 +27,7 @@ returns c =
     let w = c .before .before .before .before .before .before in
     let a = w .before .before .before .before .before .args in
     let x = stringUnits (a .s .now) (a .p .start + a .p .length) (a .p .start) 0 in
-    let t = told-is x (w .string-read .result) (a .units .now) _ (w .before .before .before .before .before .pre .1 .1) (w .string-read .ensures) in
+    let t = told-is x _ (w .string-read .result) (a .units .now) _ (w .before .before .before .before .before .pre .1 .1) (w .string-read .ensures) in
     (rw (t .1) at (c .before .before .put-answer .ensures), w .string-read .ensures .long)
 
 pub put-text-spec : {M : Type 1} → statement M

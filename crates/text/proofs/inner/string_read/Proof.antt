@@ -1,5 +1,5 @@
 -- `string_read` meets its contract.
-use Rattle.text.proofs.TextLaws.{units-found, units-missing}
+use Rattle.text.proofs.TextLaws.{units-found, replaced-found, units-missing}
 use Rattle.text.proofs.FewLaws.{string-after}
 use Rattle.text.proofs.PassLaws.{onced-missing}
 use Rattle.text.specs.Answers.{numberOutcome}
@@ -32,14 +32,14 @@ returns : tie.Need-returns
 returns c =
     let a = c .before .before .before .before .before .args in
     let e = sym (ap numberOutcome (c .before .r .given .1)) ∙ c .before .before .before .find-string .ensures in
-    onced-missing _ (a .o .now) _ (units-missing (a .s .now) (a .end) (a .at) (a .k) _ e)
+    onced-missing _ _ (a .o .now) _ (units-missing (a .s .now) (a .end) (a .at) (a .k) _ e)
 
 returns-2 : tie.Need-returns-2
 returns-2 c =
     let d = c .before .before .before .before in
     let a = d .before .before .before .before .args in
     let e = sym (ap numberOutcome (d .b .given .1)) ∙ d .before .before .find-string .ensures in
-    rw (units-found (a .s .now) (a .end) (a .at) (a .k) _ e) (rw (c .before .before .back .ensures .0) at (c .segments-once .ensures))
+    rw (units-found (a .s .now) (a .end) (a .at) (a .k) _ e, replaced-found (a .s .now) (a .end) (a .at) (a .k) _ e) (rw (c .before .before .back .ensures .0) at (c .segments-once .ensures))
 
 pub string-read-spec : {M : Type 1} → statement M
 string-read-spec =

@@ -1,5 +1,5 @@
 -- `string_text` meets its contract.
-use Rattle.text.proofs.TextLaws.{units-found, units-missing, text-refused}
+use Rattle.text.proofs.TextLaws.{units-found, replaced-found, units-missing, text-refused}
 use Rattle.text.specs.Answers.{numberOutcome}
 use mathlib.Core.Path.{sym, ap, _∙_}
 use borrow.Author.Needs.{needs}
@@ -24,7 +24,7 @@ text-from-requires c κs = search needs
 returns : tie.Need-returns
 returns c = let a = c .before .before .before .before .before .before .args in
     let e = sym (ap numberOutcome (c .before .r .given .1)) ∙ c .before .before .before .find-string .ensures in
-    text-refused _ _ _ (units-missing (a .s .now) (a .end) (a .at) (a .k) _ e)
+    text-refused _ _ _ _ (units-missing (a .s .now) (a .end) (a .at) (a .k) _ e)
 
 same-length : tie.Need-same-length
 same-length c = search needs
@@ -33,7 +33,7 @@ returns-2 : tie.Need-returns-2
 returns-2 c = let d = c .before .before .before .before .before .before in
     let a = d .before .before .before .before .before .args in
     let e = sym (ap numberOutcome (d .b .given .1)) ∙ d .before .before .find-string .ensures in
-    rw (units-found (a .s .now) (a .end) (a .at) (a .k) _ e) (rw (c .before .before .before .before .back .ensures .0) at (c .before .before .text-from .ensures))
+    rw (units-found (a .s .now) (a .end) (a .at) (a .k) _ e, replaced-found (a .s .now) (a .end) (a .at) (a .k) _ e) (rw (c .before .before .before .before .back .ensures .0) at (c .before .before .text-from .ensures))
 
 pub string-text-spec : {M : Type 1} → statement M
 string-text-spec =

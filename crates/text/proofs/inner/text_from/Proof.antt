@@ -3,15 +3,14 @@ use borrow.Author.Needs.{needs}
 use Rattle.text.proofs.inner.text_from.Statement.{statement}
 use Rattle.text.proofs.inner.text_from.Tie as tie
 
-is-once-requires : tie.Need-is-once-requires
-is-once-requires c κs = search needs
+any-compressed-requires : tie.Need-any-compressed-requires
+any-compressed-requires c κs = search needs
 
-read-and-copy-requires : tie.Need-read-and-copy-requires
-read-and-copy-requires c κs =
-    (c .before .before .before .before .before .pre, c .before .before .is-once .ensures (c .before .if1 .taken))
+text-through-requires : tie.Need-text-through-requires
+text-through-requires c κs = search needs
 
-judge-and-write-requires : tie.Need-judge-and-write-requires
-judge-and-write-requires c κs = search needs
+plain-text-requires : tie.Need-plain-text-requires
+plain-text-requires c κs = (c .before .before .before .before .before .pre, c .before .before .any-compressed .ensures (c .before .if1 .left))
 
 same-length : tie.Need-same-length
 same-length c = search needs
@@ -29,9 +28,9 @@ pub text-from-spec : {M : Type 1} → statement M
 text-from-spec =
     tie.close
     (tie.spec
-    is-once-requires
-    read-and-copy-requires
-    judge-and-write-requires
+    any-compressed-requires
+    text-through-requires
+    plain-text-requires
     same-length
     returns
     same-length-2

@@ -2,6 +2,7 @@
 use Rattle.text.proofs.JoinLaws.{many-once, units-none, units-bad, units-on, Going, going-first}
 use Rattle.text.proofs.FewLaws.{segment-end}
 use Rattle.text.proofs.PassLaws.{once-few, onced-refused, onced-done, onced-stop, onced-on}
+use Rattle.text.proofs.AmountLaws.{none-joined}
 use Rattle.text.specs.Strings.{joinedUnits}
 use Rattle.refusal.specs.declared.Refusal.the-variants.{Body}
 use Rattle.bytes_at.proofs.WalkLaws.{goes}
@@ -37,7 +38,7 @@ returns c =
     let q = d .loop in
     let a = d .before .before .args in
     let w = goes (c .before .before .segments .ensures ∙ many-once _ _) (c .enum-told .given .1) in
-    onced-refused (q .inv .0) Body (units-bad (a .s .now) (a .end) (q .left) (q .at) _ (omega arith) w)
+    onced-refused (q .inv .0) _ Body (units-bad (a .s .now) (a .end) (q .left) (q .at) _ (omega arith) w)
 
 segment-once-requires : tie.Need-segment-once-requires Inv-loop μ-loop
 segment-once-requires c κs =
@@ -47,22 +48,22 @@ segment-once-requires c κs =
     let w = goes (c .before .before .before .before .segments .ensures ∙ many-once _ _) (c .before .before .w .given .1) in
     let z = segment-end (a .s .now) (a .end) (q .at) _ w in
     let p = d .before .before .pre in
-    (omega (arith, z .0, z .1), omega (arith, z .0, z .1, p .1, q .inv .1, q .inv .2))
+    (omega (arith, z .0, z .1), omega (arith, z .0, z .1, p .1, q .inv .1, q .inv .2), omega (arith, z .0, z .1, p .1, q .inv .1, q .inv .2))
 
-enum-known-u : tie.Need-enum-known-u Inv-loop μ-loop
-enum-known-u c = search needs
-
-enum-told-2 : tie.Need-enum-told-2 Inv-loop μ-loop
-enum-told-2 c = search needs
+enum-known-r : tie.Need-enum-known-r Inv-loop μ-loop
+enum-known-r c = search needs
 
 returns-2 : tie.Need-returns-2 Inv-loop μ-loop
 returns-2 c =
-    let d = c .before .before .before .before .before .before .before .before .before in
+    let d = c .before .before .before .before .before .before .before .before .before .before in
     let q = d .loop in
     let a = d .before .before .args in
-    let w = goes (c .before .before .before .before .before .before .before .segments .ensures ∙ many-once _ _) (c .before .before .before .before .before .w .given .1) in
+    let w = goes (c .before .before .before .before .before .before .before .before .segments .ensures ∙ many-once _ _) (c .before .before .before .before .before .before .w .given .1) in
     let j = units-on (a .s .now) (a .end) (q .left) (q .at) _ (omega arith) w in
-    onced-stop (q .inv .0) _ _ _ j _ (c .before .before .segment-once .ensures) _ (c .enum-told2 .given .1)
+    onced-stop (q .inv .0) _ _ _ j _ (c .before .before .before .segment-once .ensures) _ _ (c .before .r .given .1)
+
+enum-known-k : tie.Need-enum-known-k Inv-loop μ-loop
+enum-known-k c = search needs
 
 add-n : tie.Need-add-n Inv-loop μ-loop
 add-n c =
@@ -72,7 +73,7 @@ add-n c =
     let w = goes (c .before .before .before .before .before .before .before .before .segments .ensures ∙ many-once _ _) (c .before .before .before .before .before .before .w .given .1) in
     let z = segment-end (a .s .now) (a .end) (q .at) _ w in
     let p = d .before .before .pre in
-    let k = once-few (a .s .now) (q .at) _ (c .before .before .before .segment-once .ensures) (c .before .u .given .1) in
+    let k = once-few (a .s .now) (q .at) _ (c .before .before .before .segment-once .ensures) (c .before .k .given .1) in
     omega (arith, k, z .0, z .1, p .1, q .inv .1, q .inv .2)
 
 sub-left : tie.Need-sub-left Inv-loop μ-loop
@@ -89,9 +90,9 @@ loop-again c =
     let w = goes (c .before .before .before .before .before .before .before .before .segments .ensures ∙ many-once _ _) (c .before .before .before .before .before .before .w .given .1) in
     let z = segment-end (a .s .now) (a .end) (q .at) _ w in
     let p = d .before .before .pre in
-    let k = once-few (a .s .now) (q .at) _ (c .before .before .before .segment-once .ensures) (c .before .u .given .1) in
+    let k = once-few (a .s .now) (q .at) _ (c .before .before .before .segment-once .ensures) (c .before .k .given .1) in
     let j = units-on (a .s .now) (a .end) (q .left) (q .at) _ (omega arith) w in (
-      onced-on (q .inv .0) _ _ _ j _ (c .before .before .before .segment-once .ensures) _ (omega arith) (c .before .u .given .1) (omega (arith, k, z .0, z .1, p .1, q .inv .1, q .inv .2)),
+      onced-on (q .inv .0) _ _ _ j _ (c .before .before .before .segment-once .ensures) _ (omega arith) (c .before .k .given .1) (omega (arith, k, z .0, z .1, p .1, q .inv .1, q .inv .2)),
       omega (arith, z .0, q .inv .1),
       omega (arith, k, z .0, q .inv .1, q .inv .2),
       omega (arith, k, z .0, z .1, p .1, q .inv .1, q .inv .2),
@@ -101,7 +102,7 @@ returns-3 : tie.Need-returns-3 Inv-loop μ-loop
 returns-3 c =
     let q = c .before .loop in
     let a = c .before .before .before .args in
-    onced-done (q .inv .0) (q .inv .3) (units-none (a .s .now) (a .end) (q .left) (q .at) (omega arith))
+    onced-done (q .inv .0) _ (none-joined (a .s .now) (a .end) (a .m) (a .from)) (q .inv .3) (units-none (a .s .now) (a .end) (q .left) (q .at) (omega arith))
 
 pub segments-once-spec : {M : Type 1} → statement M
 segments-once-spec =
@@ -115,9 +116,9 @@ segments-once-spec =
     enum-told
     returns
     segment-once-requires
-    enum-known-u
-    enum-told-2
+    enum-known-r
     returns-2
+    enum-known-k
     add-n
     sub-left
     loop-less

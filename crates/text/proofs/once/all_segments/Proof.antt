@@ -1,23 +1,25 @@
 -- `all_segments` meets its contract: what is left of the units leads to the answer.
 use Rattle.text.proofs.JoinLaws.{many-once, segment-ends, units-none, units-bad, units-on, Going, going-first, wrote-few, going-refused, going-done, going-stop, going-on}
+use Rattle.text.proofs.AmountLaws.{none-joined}
 use Rattle.text.specs.Strings.{joinedUnits}
 use Rattle.refusal.specs.declared.Refusal.the-variants.{Body}
 use Rattle.bytes_at.proofs.WalkLaws.{goes}
+use lib.ListN.{length}
 use native.Mathlib.Omega.{arith}
-use mathlib.Core.Path.{_∙_}
+use mathlib.Core.Path.{_≡_, _∙_}
 use borrow.Author.Needs.{needs}
-use Rattle.text.proofs.segments.all_segments.Statement.{statement}
-use Rattle.text.proofs.segments.all_segments.Tie as tie
+use Rattle.text.proofs.once.all_segments.Statement.{statement}
+use Rattle.text.proofs.once.all_segments.Tie as tie
 
 abbrev Inv-loop : tie.InvT-loop
-Inv-loop s end m from out₀ at₀ left₀ n₀ out at left n =
-    Going (joinedUnits s end m from) out₀ m (joinedUnits s end left at) out left n
+Inv-loop s end m from o₀ out₀ at₀ left₀ n₀ o out at left n =
+    Going (joinedUnits s end m from) out₀ m (joinedUnits s end left at) out left n × (length o ≡ 2040)
 
 abbrev μ-loop : tie.MeasureT-loop
-μ-loop s end m from out₀ at₀ left₀ n₀ out at left n = left
+μ-loop s end m from o₀ out₀ at₀ left₀ n₀ o out at left n = left
 
 loop-holds : tie.Need-loop-holds Inv-loop μ-loop
-loop-holds c = going-first _ _ _
+loop-holds c = (going-first _ _ _, c .before .before .pre .1)
 
 segments-requires : tie.Need-segments-requires Inv-loop μ-loop
 segments-requires c κs = search needs
@@ -36,38 +38,39 @@ returns c = let d = c .before .before .before .before in
     let q = d .loop in
     let a = d .before .before .before .args in
     let w = goes (c .before .before .segments .ensures ∙ many-once _ _) (c .enum-told .given .1) in
-    going-refused (q .inv) Body _ (units-bad (a .s .now) (a .end) (q .left) (q .at) _ (omega arith) w)
+    (going-refused (q .inv .0) _ Body _ (units-bad (a .s .now) (a .end) (q .left) (q .at) _ (omega arith) w), q .inv .1)
 
-segment-at-requires : tie.Need-segment-at-requires Inv-loop μ-loop
-segment-at-requires c κs = let d = c .before .before .before .before in
+segment-through-requires : tie.Need-segment-through-requires Inv-loop μ-loop
+segment-through-requires c κs = let d = c .before .before .before .before .before in
     let q = d .before .before .loop in
     let a = d .before .before .before .before .before .args in
-    let w = goes (d .segments .ensures ∙ many-once _ _) (c .before .before .w .given .1) in
-    omega (arith, segment-ends (a .s .now) (a .end) (q .at) _ w)
+    let w = goes (d .segments .ensures ∙ many-once _ _) (c .before .before .before .w .given .1) in
+    (omega (arith, segment-ends (a .s .now) (a .end) (q .at) _ w), q .inv .1)
 
-enum-known-u : tie.Need-enum-known-u Inv-loop μ-loop
-enum-known-u c = search needs
-
-enum-told-2 : tie.Need-enum-told-2 Inv-loop μ-loop
-enum-told-2 c = search needs
+enum-known-r : tie.Need-enum-known-r Inv-loop μ-loop
+enum-known-r c = search needs
 
 same-length-2 : tie.Need-same-length-2 Inv-loop μ-loop
 same-length-2 c = search needs
 
 returns-2 : tie.Need-returns-2 Inv-loop μ-loop
-returns-2 c = let v = c .before .before .before .before .before .before .before in
+returns-2 c = let v = c .before .before .before .before .before .before .before .before .before in
     let d = v .before .before in
     let q = d .before .before .loop in
     let a = d .before .before .before .before .before .args in
     let w = goes (d .segments .ensures ∙ many-once _ _) (v .w .given .1) in
     let j = units-on (a .s .now) (a .end) (q .left) (q .at) _ (omega arith) w in
-    going-stop (q .inv) _ _ _ j _ _ (c .before .before .before .before .segment-at .ensures) (c .enum-told2 .given .1)
+    let u = c .before .before .before .before .before .segment-through .ensures in
+    (going-stop (q .inv .0) _ _ _ j _ _ _ (u .0) (c .before .r .given .1), u .1)
+
+enum-known-k : tie.Need-enum-known-k Inv-loop μ-loop
+enum-known-k c = search needs
 
 add-n : tie.Need-add-n Inv-loop μ-loop
-add-n c = let d = c .before .before .before .before .before .before .before .before .before .before .before .before in
+add-n c = let d = c .before .before .before .before .before .before .before .before .before .before .before .before .before in
     let q = d .loop in
-    let k = wrote-few _ (c .before .before .before .before .before .segment-at .ensures) (c .before .u .given .1) in
-    omega (arith, q .inv .few, q .inv .down, d .before .before .before .pre)
+    let k = wrote-few _ (c .before .before .before .before .before .segment-through .ensures .0) (c .before .k .given .1) in
+    omega (arith, q .inv .0 .few, q .inv .0 .down, d .before .before .before .pre .0)
 
 sub-left : tie.Need-sub-left Inv-loop μ-loop
 sub-left c = search needs
@@ -76,13 +79,14 @@ loop-less : tie.Need-loop-less Inv-loop μ-loop
 loop-less c = omega arith
 
 loop-again : tie.Need-loop-again Inv-loop μ-loop
-loop-again c = let v = c .before .before .before .before .before .before .before .before in
+loop-again c = let v = c .before .before .before .before .before .before .before .before .before in
     let d = v .before .before in
     let q = d .before .before .loop in
     let a = d .before .before .before .before .before .args in
     let w = goes (d .segments .ensures ∙ many-once _ _) (v .w .given .1) in
     let j = units-on (a .s .now) (a .end) (q .left) (q .at) _ (omega arith) w in
-    going-on (q .inv) _ _ _ j _ _ (omega arith) (c .before .before .before .before .before .segment-at .ensures) (c .before .u .given .1)
+    let u = c .before .before .before .before .before .segment-through .ensures in
+    (going-on (q .inv .0) _ _ _ j _ _ (omega arith) (u .0) (c .before .k .given .1), u .1)
 
 same-length-3 : tie.Need-same-length-3 Inv-loop μ-loop
 same-length-3 c = search needs
@@ -90,7 +94,7 @@ same-length-3 c = search needs
 returns-3 : tie.Need-returns-3 Inv-loop μ-loop
 returns-3 c = let q = c .before .loop in
     let a = c .before .before .before .before .args in
-    going-done (q .inv) (units-none (a .s .now) (a .end) (q .left) (q .at) (omega arith))
+    (going-done (q .inv .0) _ (none-joined (a .s .now) (a .end) (a .m) (a .from)) (units-none (a .s .now) (a .end) (q .left) (q .at) (omega arith)), q .inv .1)
 
 pub all-segments-spec : {M : Type 1} → statement M
 all-segments-spec =
@@ -104,11 +108,11 @@ all-segments-spec =
     enum-told
     same-length
     returns
-    segment-at-requires
-    enum-known-u
-    enum-told-2
+    segment-through-requires
+    enum-known-r
     same-length-2
     returns-2
+    enum-known-k
     add-n
     sub-left
     loop-less

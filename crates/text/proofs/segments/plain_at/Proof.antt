@@ -1,9 +1,9 @@
--- `segment_at` meets its contract.
+-- `plain_at` meets its contract.
 use Prim.Native.Nat.{_+_}
-use Rattle.text.proofs.UnitLaws.{few-bytes, units-at}
+use Rattle.text.proofs.UnitLaws.{few-bytes, plain-at}
 use borrow.Author.Needs.{needs}
-use Rattle.text.proofs.segments.segment_at.Statement.{statement}
-use Rattle.text.proofs.segments.segment_at.Tie as tie
+use Rattle.text.proofs.segments.plain_at.Statement.{statement}
+use Rattle.text.proofs.segments.plain_at.Tie as tie
 
 byte-requires : tie.Need-byte-requires
 byte-requires c κs = search needs
@@ -29,8 +29,8 @@ byte-requires-3 c κs = search needs
 part-of-requires : tie.Need-part-of-requires
 part-of-requires c κs = search needs
 
-one-segment-requires : tie.Need-one-segment-requires
-one-segment-requires c κs = let b = c .before .before in
+plain-one-requires : tie.Need-plain-one-requires
+plain-one-requires c κs = let b = c .before .before in
     let a = b .before .before .before .before .before .before .args in
     few-bytes (a .s .now) _ (a .at + 3) (b .byte3 .result) (c .before .part-of .ensures) (b .byte3 .ensures .1 .0)
 
@@ -41,13 +41,13 @@ returns : tie.Need-returns
 returns c = let p = c .before .before .before .before in
     let w = p .before .before in
     let a = w .before .before .before .before .before .args in
-    let e = units-at (a .s .now) _ (a .at) _ _ _ _ (w .before .before .byte .ensures .0) (w .before .byte2 .ensures .0) (p .before .byte3 .ensures .0) (w .way-of .ensures)
+    let e = plain-at (a .s .now) _ (a .at) _ _ _ _ (w .before .before .byte .ensures .0) (w .before .byte2 .ensures .0) (p .before .byte3 .ensures .0) (w .way-of .ensures)
     (p .part-of .ensures)
     in
-    rw e at (c .before .before .one-segment .ensures)
+    rw e at (c .before .before .plain-one .ensures)
 
-pub segment-at-spec : {M : Type 1} → statement M
-segment-at-spec =
+pub plain-at-spec : {M : Type 1} → statement M
+plain-at-spec =
     tie.close
     (tie.spec
     byte-requires
@@ -58,6 +58,6 @@ segment-at-spec =
     add-byte-2
     byte-requires-3
     part-of-requires
-    one-segment-requires
+    plain-one-requires
     same-length
     returns)
