@@ -11,20 +11,9 @@ import zlib
 
 from bodies import section_outcome
 from sections import EIT, ETT, KINDS, MGT, RRT, TVCT, Refused, sealed, section
+from written import digest
 
 PLACE, PLACES = 4096, 64
-
-
-def digest(numbers):
-    """Adler-32, of numbers that need not be bytes."""
-    a, b = 1, 0
-    for x in numbers:
-        a += x
-        b += a
-    return b % 65521 << 16 | a % 65521
-
-
-assert digest(b"123456789") == zlib.adler32(b"123456789")
 
 
 Watch = collections.namedtuple("Watch", "key quota edition")

@@ -1,7 +1,19 @@
-"""What a script of vectors has made goes to its program's stdin and stdout, or is compared with them (README.md)."""
+"""What a script of vectors has made goes to its program's stdin and stdout, or is compared with them (README.md); and the digest that
+stands in a line for a long list of numbers."""
+import itertools
 import pathlib
 import struct
 import sys
+import zlib
+
+
+def digest(numbers):
+    """Adler-32, of numbers that need not be bytes."""
+    sums = list(itertools.accumulate(numbers, initial=1))
+    return (sum(sums) - 1) % 65521 << 16 | sums[-1] % 65521
+
+
+assert digest(b"123456789") == zlib.adler32(b"123456789")
 
 
 def vector(op, numbers, data):

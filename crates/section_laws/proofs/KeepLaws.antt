@@ -12,12 +12,16 @@ use Rattle.reading.specs.Rrts as rrts
 use Rattle.reading.specs.Eits as eits
 use Rattle.reading.specs.Etts as etts
 use Rattle.rows.specs.Rows.{rowsOf, withRows}
+use Rattle.rows.specs.Values.{valueRowsOf, withValueRows}
 use Rattle.section_text.specs.Texts.{textCount, textHeading, textUnits}
+use Rattle.titles.specs.Titles as titles
 use Rattle.section_laws.specs.Accepted.{Unique, Library, Keeps}
 use Rattle.section_laws.proofs.TableLaws.{mgt-reads, defined-reads, tvct-reads, channel-reads, rrt-reads, dimension-reads, value-reads, eit-reads, event-reads, ett-reads}
 use Rattle.section_laws.proofs.QuestionLaws.{rating-reads, descriptor-reads, place-reads}
 use Rattle.section_laws.proofs.RowLaws.{row-count-reads, rows-store}
+use Rattle.section_laws.proofs.ValueRowLaws.{value-count-reads, value-rows-store}
 use Rattle.section_laws.proofs.TextLaws.{count-reads, heading-reads, units-reads, field-count-reads, field-heading-reads, field-units-reads}
+use Rattle.section_laws.proofs.TitleLaws.{titles-read, title-rows-store, title-units-store}
 
 -- the definitions that the promises of the calls cite
 abbrev pub ours : Library
@@ -39,12 +43,17 @@ ours = record {
   ett = etts.fieldsOf;
   rowCount = λ r room s. rowsOf r s room;
   rows = λ r l s. withRows r s (rowsOf r s (length l)) l;
+  valueRowCount = λ room s. valueRowsOf s room;
+  valueRows = λ l s. withValueRows s (valueRowsOf s (length l)) l;
   count = λ w s. textCount s w;
   heading = λ w k s. textHeading s w k;
   units = λ w k s. textUnits s w k;
   fieldCount = fieldCount;
   fieldHeading = λ k f. fieldHeading f k;
   fieldUnits = λ k f. fieldUnits f k;
+  titleCounts = λ rows units s. titles.titlesOf s rows units;
+  titleRows = λ units l s. titles.withRows s (titles.titlesOf s (length l) units) l;
+  titleUnits = λ rows l s. titles.withUnits s (titles.titlesOf s rows (length l)) l;
 }
 
 pub kept : Keeps ours
@@ -66,12 +75,17 @@ kept = record {
   ett = ett-reads;
   rowCount = row-count-reads;
   rows = rows-store;
+  valueRowCount = value-count-reads;
+  valueRows = value-rows-store;
   count = count-reads;
   heading = heading-reads;
   units = units-reads;
   fieldCount = field-count-reads;
   fieldHeading = field-heading-reads;
   fieldUnits = field-units-reads;
+  titleCounts = titles-read;
+  titleRows = title-rows-store;
+  titleUnits = title-units-store;
 }
 
 pub unique : Unique

@@ -1,8 +1,11 @@
 pub mod TableLaws
 pub mod QuestionLaws
 pub mod RowLaws
+pub mod ValueRowLaws
 pub mod AskedLaws
 pub mod TextLaws
+pub mod TitleLaws
+pub mod SortLaws
 pub mod KeepLaws
 pub mod NineLaws
 pub mod SampleLaws

@@ -33,14 +33,18 @@ use Rattle.reading.specs.Eits as eits
 use Rattle.reading.specs.Etts as etts
 use Rattle.rows.specs.declared.Row.{Row}
 use Rattle.rows.specs.Rows.{entryFor, width, roomFor, rowsOf}
+use Rattle.rows.specs.Values.{valueRowsOf}
 use Rattle.section_text.specs.declared.field.Which.{Which}
 use Rattle.section_text.specs.Fields.{kindFor, fieldOf}
 use Rattle.section_text.specs.Texts.{textCount, textHeading, textUnits}
 use Rattle.section_text.proofs.SoundLaws.{field-nine, no-nine, no-nine-heading}
+use Rattle.titles.specs.Titles as titles
 use Rattle.section_laws.specs.Accepted.{Reads, NoNine}
 use Rattle.section_laws.proofs.TableLaws.{mgt-reads, defined-reads, tvct-reads, channel-reads, rrt-reads, dimension-reads, value-reads, eit-reads, event-reads, ett-reads}
 use Rattle.section_laws.proofs.QuestionLaws.{rating-reads, descriptor-reads, place-reads}
 use Rattle.section_laws.proofs.RowLaws.{row-count-reads}
+use Rattle.section_laws.proofs.ValueRowLaws.{value-count-reads}
+use Rattle.section_laws.proofs.TitleLaws.{titles-read}
 
 -- not refused by 9
 abbrev Fair : {A : Type 0} → Outcome A → Type 0
@@ -125,12 +129,15 @@ room-fair-by : (t : Bool) (n : ℕ) → Fair (pick t (refused 12) (result n))
 room-fair-by true n = other-fair 12 (λ e. omega arith)
 room-fair-by false n = result-fair n
 
-room-fair : (r : Row) (n room : ℕ) → Fair (roomFor r n room)
+room-fair : (w n room : ℕ) → Fair (roomFor w n room)
 unfolding roomFor ifLt
-room-fair r n room = room-fair-by (ltb room (width r * n)) n
+room-fair w n room = room-fair-by (ltb room (w * n)) n
 
 pub rows-nine : (r : Row) (room : ℕ) → NoNine (tableOf (entryFor r)) (λ s. rowsOf r s room)
-rows-nine r room = fair-reader _ _ _ (row-count-reads r room) (λ y. room-fair r _ room)
+rows-nine r room = fair-reader _ _ _ (row-count-reads r room) (λ y. room-fair (width r) _ room)
+
+pub value-rows-nine : (room : ℕ) → NoNine Rrt (λ s. valueRowsOf s room)
+value-rows-nine room = fair-reader _ _ _ (value-count-reads room) (λ y. room-fair 6 _ room)
 
 -- ---- the texts
 units-fair : (s : List ℕ) (w : Which) (h : Header) → sectionBy (onlyOf (kindFor w)) s ≡ result h → fieldOf s w ≡ refused 9 → ⊥
@@ -150,3 +157,16 @@ count-first (result p) k e = not-both 9 (k p) (sym e)
 pub count-nine : (w : Which) → NoNine (kindFor w) (λ s. textCount s w)
 unfolding textCount
 count-nine w s z h q e = units-fair s w h q (count-first (fieldOf s w) _ e)
+
+-- ---- all titles
+titles-fair-by : (t u : Bool) (c : titles.Counts) → Fair (pick t (refused 12) (pick u (refused 12) (result c)))
+titles-fair-by true u c = other-fair 12 (λ e. omega arith)
+titles-fair-by false true c = other-fair 12 (λ e. omega arith)
+titles-fair-by false false c = result-fair c
+
+titles-fair : (c : titles.Counts) (rows units : ℕ) → Fair (titles.roomFor c rows units)
+unfolding titles.roomFor ifLt
+titles-fair c rows units = titles-fair-by (ltb rows (12 * c .events)) (ltb units (c .units)) c
+
+pub titles-nine : (rows units : ℕ) → NoNine Eit (λ s. titles.titlesOf s rows units)
+titles-nine rows units = fair-reader Eit _ _ (titles-read rows units) (λ y. titles-fair _ rows units)

@@ -11,6 +11,7 @@ use Rattle.format.specs.Listed.{allOf}
 use Rattle.format.proofs.ListedLaws.{Stand, first-lies, rest-stand}
 use Rattle.mgt.proofs.ThereLaws as mgts
 use Rattle.channel.proofs.ThereLaws as channels
+use Rattle.rrt.proofs.ThereLaws as rrts
 use Rattle.eit.proofs.ThereLaws as eits
 use Rattle.section.specs.Encoding.{Section, encode, WellFormed}
 use Rattle.section.proofs.EncodingLaws.{encode-bytes, accepts}
@@ -19,8 +20,8 @@ use Rattle.entry.specs.Entries.{tableOf, firstOf}
 use Rattle.entry.specs.Records.{recordOf, entriesOf, beginOf}
 use Rattle.entry.proofs.RecordLaws.{first-there, count-there, entries-stand}
 use Rattle.rows.specs.declared.Row.{Row}
-use Rattle.rows.specs.declared.Row.the-variants.{Table, Channel, Event}
-use Rattle.rows.specs.Rows.{entryFor, rowAt, nextAt, rowsFrom, roomFor, rowsIn, rowsOf, withRows}
+use Rattle.rows.specs.declared.Row.the-variants.{Table, Channel, Dimension, Event}
+use Rattle.rows.specs.Rows.{entryFor, width, rowAt, nextAt, rowsFrom, roomFor, rowsIn, rowsOf, withRows}
 use Rattle.section_laws.specs.Told.{rowTold, rowsTold, countTold, stored}
 use Rattle.section_laws.specs.Accepted.{Reads, Stores}
 
@@ -31,6 +32,7 @@ module _ (s : List ℕ) (z : Bytes s) where
   unfolding rowAt
   row-there Table a x o l = mgts.row-there s z a x o l
   row-there Channel a x o l = channels.row-there s z a x o l
+  row-there Dimension a x o l = rrts.row-there s z a x o l
   row-there Event a x o l = eits.row-there s z a x o l
 
   next-there : (r : Row) (a : ℕ) (x : recordOf (entryFor r) .Val) → recordOf (entryFor r) .Ok (record {}) x → Lies (recordOf (entryFor r) .enc x) s a
@@ -38,6 +40,7 @@ module _ (s : List ℕ) (z : Bytes s) where
   unfolding nextAt
   next-there Table a x o l = mgts.end-there s z a x o l
   next-there Channel a x o l = channels.end-there s z a x o l
+  next-there Dimension a x o l = rrts.end-there s z a x o l
   next-there Event a x o l = eits.end-there s z a x o l
 
   -- and of several, one after the other
@@ -56,15 +59,15 @@ module _ (s : List ℕ) (z : Bytes s) where
 count-told : (r : Row) (room : ℕ) (y : Section (tableOf (entryFor r))) → WellFormed (tableOf (entryFor r)) y
     → rowsOf r (encode y) room ≡ countTold r room y
 unfolding rowsOf rowsIn
-count-told r room y o = after-result _ _ _ (accepts (tableOf (entryFor r)) y o) ∙ ap (λ n. roomFor r n room) (count-there (entryFor r) y o)
+count-told r room y o = after-result _ _ _ (accepts (tableOf (entryFor r)) y o) ∙ ap (λ n. roomFor (width r) n room) (count-there (entryFor r) y o)
 
 pub row-count-reads : (r : Row) (room : ℕ) → Reads (tableOf (entryFor r)) (λ s. rowsOf r s room) (countTold r room)
 unfolding rowsOf
 row-count-reads r room = record { tells = count-told r room; refuses = λ s n q. after-refused _ _ n q }
 
-room-is : (r : Row) (c room n : ℕ) → roomFor r c room ≡ result n → c ≡ n
+room-is : (w c room n : ℕ) → roomFor w c room ≡ result n → c ≡ n
 unfolding roomFor
-room-is r c room n e = same-result c n (not-less _ _ 12 (result c) n e .1)
+room-is w c room n e = same-result c n (not-less _ _ 12 (result c) n e .1)
 
 store-told : (r : Row) (s l rows : List ℕ) (o : Outcome ℕ) → ((n : ℕ) → o ≡ result n → rowsFrom r s n (firstOf (entryFor r) s) ≡ rows)
     → withRows r s o l ≡ stored l rows o
@@ -82,6 +85,6 @@ rows-store r = record {
       let u = ap (rowsFrom r (encode y) (length (entriesOf e y))) (first-there e y o) ∙ t in
       ap (λ x. withRows r (encode y) x l) (count-told r (length l) y o)
       ∙ store-told r (encode y) l (rowsTold r y) (countTold r (length l) y)
-      (λ n q. ap (λ m. rowsFrom r (encode y) m (firstOf e (encode y))) (sym (room-is r _ (length l) n q)) ∙ u);
+      (λ n q. ap (λ m. rowsFrom r (encode y) m (firstOf e (encode y))) (sym (room-is (width r) _ (length l) n q)) ∙ u);
   keeps = λ l s n q. ap (λ x. withRows r s x l) (row-count-reads r (length l) .refuses s n q);
 }

@@ -1,19 +1,20 @@
 -- The sample records are well formed; and the bytes of one.
 use Prim.Native.Nat.{ℕ, _≤_, _<_}
 use mathlib.Core.Path.{_≡_, refl}
-use mathlib.Core.List.{[], _∷_, _++_}
+use mathlib.Core.List.{List, [], _∷_, _++_}
 use native.Mathlib.Omega.{arith}
 use lib.ListN.{length}
 use Rattle.kind.specs.declared.Kind.{Kind}
 use Rattle.kind.specs.declared.Kind.the-variants.{Mgt, Tvct, Rrt, Eit, Ett}
 use Rattle.kind.specs.Kinds.{limitsOf}
+use Rattle.format.specs.Lawful.{All}
 use Rattle.format.specs.Values.{bytesOf}
 use Rattle.format.specs.Laws.OfValues.{bytes-bytes}
 use Rattle.format.specs.Told.{sized8}
 use Rattle.strings.specs.Strings.{segment, string, structure, text, asText}
 use Rattle.descriptor.specs.Descriptors.{region, descriptors, contentAdvisory}
 use Rattle.channel.specs.Format.{channelFormat}
-use Rattle.rrt.specs.Format.{dimensionFormat}
+use Rattle.rrt.specs.Format.{DimensionFields, dimensionFormat}
 use Rattle.eit.specs.Format.{eventFormat}
 use Rattle.section.specs.Bodies.{bodyFormat}
 use Rattle.section.specs.Encoding.{Section, lengthWith, unsealed, bodyBytes, WellFormed, AllOnes}
@@ -37,11 +38,13 @@ advised-ok =
     let g : region .Ok (record {}) regionOne = (omega arith, sized-tea-ok) in
     ((omega arith, (omega arith, (refl, (refl, (omega arith, (omega arith, (refl, (g, record {})))))))), record {})
 
-named-ok : (t : text .Val) → sized8 text .Ok (record {}) (record {}, t) → bodyFormat Rrt .Ok (record {}) (named t)
+dimension-ok : (t : text .Val) → sized8 text .Ok (record {}) (record {}, t) → dimensionFormat .Ok (record {}) (dimensionOf t)
+dimension-ok t o = (o, (omega arith, (omega arith, (omega arith, (refl, ((o, o), record {}))))))
+
+named-ok : (t : text .Val) (more : List DimensionFields) → sized8 text .Ok (record {}) (record {}, t) → All (dimensionFormat .Ok (record {})) more
+    → length more < 255 → bodyFormat Rrt .Ok (record {}) (named t more)
 unfolding noDescriptors
-named-ok t o =
-    let d : dimensionFormat .Ok (record {}) (dimensionOf t) = (o, (omega arith, (omega arith, (omega arith, (refl, ((o, o), record {})))))) in
-    (o, ((record {}, (omega arith, (omega arith, (refl, (d, record {}))))), omega arith))
+named-ok t more o os h = (o, ((record {}, (omega (arith, h), (omega (arith, h), (refl, (dimension-ok t o, os))))), omega arith))
 
 -- ---- the records
 good : (k : Kind) (n : ℕ) (b : bodyFormat k .Val) → bodyFormat k .Ok (record {}) b
@@ -64,7 +67,7 @@ pub bare-good : (k : Kind) → WellFormed k (bare k)
 unfolding nothing noStrings noDescriptors bytesOf
 bare-good Mgt = omega arith
 bare-good Tvct = omega arith
-bare-good Rrt = good Rrt 0 _ (named-ok nothing (omega arith)) (omega arith)
+bare-good Rrt = good Rrt 0 _ (named-ok nothing [] (omega arith) (record {}) (omega arith)) (omega arith)
 bare-good Eit = omega arith
 bare-good Ett = omega arith
 
@@ -74,7 +77,8 @@ full-good Mgt = omega arith
 full-good Tvct =
     let c : channelFormat .Ok (record {}) teaChannel = (omega arith, omega arith) in
     good Tvct 7 _ ((record {}, (omega arith, (refl, (c, record {})))), omega arith) (omega arith)
-full-good Rrt = good Rrt 7 _ (named-ok (asText tea) sized-tea-ok) (omega arith)
+full-good Rrt =
+    good Rrt 7 _ (named-ok (asText tea) (dimensionOf (asText tea) ∷ []) sized-tea-ok (dimension-ok (asText tea) sized-tea-ok, record {}) (omega arith)) (omega arith)
 full-good Eit =
     let v : eventFormat .Ok (record {}) (teaEvent advised) = (omega arith, (sized-tea-ok, (omega arith, (omega arith, (refl, advised-ok))))) in
     good Eit 7 _ (record {}, (omega arith, (refl, (v, record {})))) (omega arith)
@@ -84,7 +88,7 @@ full-good Ett = good Ett 7 _ (omega arith, tea-ok) (omega arith)
 pub full-ones : (k : Kind) → AllOnes k (full k)
 full-ones Mgt = ((refl, refl), ((((refl, (refl, record {})), refl), record {}), refl))
 full-ones Tvct = ((refl, refl), ((((refl, record {}), refl), record {}), refl))
-full-ones Rrt = ((refl, refl), ((refl, record {}), refl))
+full-ones Rrt = ((refl, refl), ((refl, (refl, record {})), refl))
 full-ones Eit = ((refl, refl), (((refl, (refl, record {})), refl), record {}))
 full-ones Ett = ((refl, refl), record {})
 

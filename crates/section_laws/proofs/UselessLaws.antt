@@ -1,7 +1,7 @@
 -- Each statement says something: what keeps it tells the two sample records of its kind apart. So no judge and no reader whose answer
 -- is always the same keeps its own statement, be that answer a result or a refusal, nor does one that judges rightly and then
 -- answers every accepted section alike. A reader with a question fails at one that the full record answers.
-use Prim.Native.Nat.{ℕ, suc}
+use Prim.Native.Nat.{ℕ, suc, _*_}
 use mathlib.Core.Path.{_≡_, refl, sym, ap, _∙_}
 use mathlib.Core.List.{List, [], _∷_}
 use native.Mathlib.Omega.{arith}
@@ -18,6 +18,7 @@ use Rattle.strings.specs.Strings.{text, StringFields, stringsOf, asText}
 use Rattle.descriptor.specs.Descriptors.{descriptorsOf}
 use Rattle.rating.specs.Values.{descriptorFor, textPlace, placeFrom, regionPlace, textBy, textFrom}
 use Rattle.row.specs.Rows.{partRow}
+use Rattle.eit.specs.Values.{titleFor}
 use Rattle.channel.specs.Fields.{nameRow, tuningRow, serviceRow, numbersRow}
 use Rattle.text.specs.Segments.{wayOf, unitsBy}
 use Rattle.text.specs.Strings.{joined}
@@ -32,7 +33,9 @@ use Rattle.rows.specs.Rows.{entryFor, width, roomFor}
 use Rattle.section_text.specs.declared.field.Which.{Which}
 use Rattle.section_text.specs.declared.field.Which.the-variants.{Title, Advisory, Extended, RegionName, DimensionName, ShortText, LongText}
 use Rattle.section_text.specs.Fields.{kindFor}
-use Rattle.section_laws.specs.Told.{mgtTold, definedTold, tvctTold, channelTold, rrtTold, dimensionTold, valueTold, eitTold, eventTold, ratingTold, descriptorTold, placeTold, ettTold, rowsTold, countTold, stored, stringsTold}
+use Rattle.titles.specs.Titles as titles
+use Rattle.section_laws.specs.Told.{mgtTold, definedTold, tvctTold, channelTold, rrtTold, dimensionTold, valueTold, eitTold, eventTold, ratingTold, descriptorTold, placeTold, ettTold, rowsTold, countTold, stored, numbered, valueRowsTold, valuesIn, valueCountTold, stringsTold}
+use Rattle.section_laws.specs.Titled.{sortTold, titleUnits, titleRowsFrom, titleRows, titlesTold}
 use Rattle.section_laws.specs.Accepted.{Judges, JudgesAll, Reads, Stores, ReadsText, Library, Keeps}
 use Rattle.section_laws.specs.Samples.{nothing, noStrings, teaString, tea, advised, bare, full, first}
 use Rattle.section_laws.proofs.SampleLaws.{bare-good, full-good, tea-ok}
@@ -122,24 +125,26 @@ no-place = apart Eit (placeTold 0 1) (λ p. 0) (λ e. omega arith)
 pub no-ett : Refuted Ett ettTold
 no-ett = apart Ett ettTold (λ t. t .«etm_id») (λ e. omega arith)
 
--- ---- the rows, where there is room for one: their number, and what a lent list of zeros holds afterwards
-pub no-row-count : (r : Row) → Refuted (tableOf (entryFor r)) (countTold r (width r))
+-- ---- the rows, where there is room for two: their number, and what a lent list of zeros holds afterwards
+pub no-row-count : (r : Row) → Refuted (tableOf (entryFor r)) (countTold r (2 * width r))
 unfolding roomFor ifLt
 no-row-count row.Table = apart Mgt _ (λ n. n) (λ e. omega arith)
 no-row-count row.Channel = apart Tvct _ (λ n. n) (λ e. omega arith)
+no-row-count row.Dimension = apart Rrt _ (λ n. n) (λ e. omega arith)
 no-row-count row.Event = apart Eit _ (λ n. n) (λ e. omega arith)
 
 abbrev pub room : Row → List ℕ
-room r = replicate (width r) 0
+room r = replicate (2 * width r) 0
 
 abbrev pub storedTold : (r : Row) → List ℕ → Section (tableOf (entryFor r)) → List ℕ
 storedTold r out y = stored out (rowsTold r y) (countTold r (length out) y)
 
--- the second number of the full record's row is not 0
+-- the second number of the full record's first row is not 0
 row-differs : (r : Row) → byteAt (storedTold r (room r) (bare _)) 1 ≡ byteAt (storedTold r (room r) (full _)) 1 → ⊥
-unfolding stored roomFor ifLt allOf partRow nameRow tuningRow serviceRow numbersRow
+unfolding stored roomFor ifLt allOf partRow nameRow tuningRow serviceRow numbersRow bytesOf nothing asText
 row-differs row.Table e = omega arith
 row-differs row.Channel e = omega arith
+row-differs row.Dimension e = omega arith
 row-differs row.Event e = omega arith
 
 -- so no writer that never changes the list
@@ -149,6 +154,24 @@ no-rows r writer u w =
     let k = tableOf (entryFor r) in
     let e = sym (w .stores (room r) (bare k) (bare-good k)) ∙ u ∙ w .stores (room r) (full k) (full-good k) in
     row-differs r (ap (λ l. byteAt l 1) e)
+
+-- ---- the same of the rows of values
+pub no-value-count : Refuted Rrt (valueCountTold 12)
+unfolding roomFor ifLt valuesIn
+no-value-count = apart Rrt _ (λ n. n) (λ e. omega arith)
+
+abbrev pub valuesStored : List ℕ → Section Rrt → List ℕ
+valuesStored out y = stored out (valueRowsTold y) (valueCountTold (length out) y)
+
+-- the length of the first short text
+value-differs : byteAt (valuesStored (replicate 12 0) (bare Rrt)) 3 ≡ byteAt (valuesStored (replicate 12 0) (full Rrt)) 3 → ⊥
+unfolding stored roomFor ifLt valuesIn numbered partRow bytesOf nothing asText
+value-differs e = omega arith
+
+pub no-value-rows : (writer : List ℕ → List ℕ → List ℕ) → Useless Rrt (writer (replicate 12 0)) → Stores Rrt writer valuesStored → ⊥
+no-value-rows writer u w =
+    let e = sym (w .stores (replicate 12 0) (bare Rrt) (bare-good Rrt)) ∙ u ∙ w .stores (replicate 12 0) (full Rrt) (full-good Rrt) in
+    value-differs (ap (λ l. byteAt l 3) e)
 
 -- ---- the texts of a section: of each sort the full record has one, of one string, and the bare one none or one of no strings
 abbrev pub RefutedIn : {A : Type 0} → (List StringFields → Outcome A) → Type 0
@@ -196,6 +219,29 @@ no-field-heading = apart-text (λ ss. headingOf ss 0) (λ h. 0) (λ e. omega ari
 pub no-field-units : RefutedText (λ ss. unitsOf ss 0)
 unfolding ofString segmentsFor joined wayOf unitsBy ifEq after
 no-field-units = apart-text (λ ss. unitsOf ss 0) length (λ e. omega arith)
+
+-- ---- all titles, where there is room for a row and the units of "Tea": how many there are, and what lent lists of zeros hold afterwards
+pub no-titles : Refuted Eit (titlesTold 12 3)
+unfolding titles.roomFor ifLt allOf sortTold titles.unitsTold titles.textTold titleFor asText tea stringsOf ofString segmentsFor joined wayOf unitsBy ifEq after
+no-titles = apart Eit _ (λ c. c .events) (λ e. omega arith)
+
+-- no writer that leaves a number of its list as it was in both
+no-stores : (writer : List ℕ → List ℕ → List ℕ) (told : List ℕ → Section Eit → List ℕ) (l : List ℕ) (i : ℕ)
+    → (byteAt (told l (bare Eit)) i ≡ byteAt (told l (full Eit)) i → ⊥) → Useless Eit (writer l) → Stores Eit writer told → ⊥
+no-stores writer told l i differ u w =
+    differ (ap (λ k. byteAt k i) (sym (w .stores l (bare Eit) (bare-good Eit)) ∙ u ∙ w .stores l (full Eit) (full-good Eit)))
+
+-- the ninth number of a row, which is the title's sort
+pub no-title-rows : (writer : List ℕ → List ℕ → List ℕ) → Useless Eit (writer (replicate 12 0))
+    → Stores Eit writer (λ out y. stored out (titleRows y) (titlesTold (length out) 3 y)) → ⊥
+unfolding stored titles.roomFor ifLt allOf titleRowsFrom sortTold titles.rowTold titles.unitsTold titles.textTold titleFor partRow asText tea stringsOf ofString segmentsFor joined wayOf unitsBy ifEq after
+no-title-rows writer = no-stores writer _ (replicate 12 0) 8 (λ e. omega arith)
+
+-- the first unit
+pub no-title-units : (writer : List ℕ → List ℕ → List ℕ) → Useless Eit (writer (replicate 3 0))
+    → Stores Eit writer (λ out y. stored out (titleUnits y) (titlesTold 12 (length out) y)) → ⊥
+unfolding stored titles.roomFor ifLt allOf sortTold titles.unitsTold titles.textTold titleFor asText tea stringsOf ofString segmentsFor joined wayOf unitsBy ifEq after
+no-title-units writer = no-stores writer _ (replicate 3 0) 0 (λ e. omega arith)
 
 -- ---- a library whose judge never looks at the section
 pub no-library : (l : Library) → ((k : Kind) (s t : List ℕ) → l .judge k s ≡ l .judge k t) → Keeps l → ⊥

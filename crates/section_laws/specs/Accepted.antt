@@ -33,7 +33,9 @@ use Rattle.rows.specs.declared.Row.{Row}
 use Rattle.rows.specs.Rows.{entryFor}
 use Rattle.section_text.specs.declared.field.Which.{Which}
 use Rattle.section_text.specs.Fields.{kindFor}
-use Rattle.section_laws.specs.Told.{mgtTold, definedTold, tvctTold, channelTold, rrtTold, dimensionTold, valueTold, eitTold, eventTold, ratingTold, descriptorTold, placeTold, ettTold, rowsTold, countTold, stored, stringsTold}
+use Rattle.titles.specs.Titles.{Counts}
+use Rattle.section_laws.specs.Told.{mgtTold, definedTold, tvctTold, channelTold, rrtTold, dimensionTold, valueTold, eitTold, eventTold, ratingTold, descriptorTold, placeTold, ettTold, rowsTold, countTold, stored, valueRowsTold, valueCountTold, stringsTold}
+use Rattle.section_laws.specs.Titled.{titleUnits, titleRows, titlesTold}
 
 -- ---- the judge
 -- s is the encoding of a well-formed record of the kind, whose header is h
@@ -89,12 +91,17 @@ pub record Library : Type 0 where
   pub ett : List ℕ → Outcome EttTable
   pub rowCount : Row → ℕ → List ℕ → Outcome ℕ
   pub rows : Row → List ℕ → List ℕ → List ℕ
+  pub valueRowCount : ℕ → List ℕ → Outcome ℕ
+  pub valueRows : List ℕ → List ℕ → List ℕ
   pub count : Which → List ℕ → Outcome ℕ
   pub heading : Which → ℕ → List ℕ → Outcome Heading
   pub units : Which → ℕ → List ℕ → Outcome (List ℕ)
   pub fieldCount : List ℕ → Outcome ℕ
   pub fieldHeading : ℕ → List ℕ → Outcome Heading
   pub fieldUnits : ℕ → List ℕ → Outcome (List ℕ)
+  pub titleCounts : ℕ → ℕ → List ℕ → Outcome Counts
+  pub titleRows : ℕ → List ℕ → List ℕ → List ℕ
+  pub titleUnits : ℕ → List ℕ → List ℕ → List ℕ
 
 -- ---- and what it promises
 pub record Keeps (l : Library) : Type 0 where
@@ -115,9 +122,14 @@ pub record Keeps (l : Library) : Type 0 where
   pub ett : Reads Ett (l .ett) ettTold
   pub rowCount : (r : Row) (room : ℕ) → Reads (tableOf (entryFor r)) (l .rowCount r room) (countTold r room)
   pub rows : (r : Row) → Stores (tableOf (entryFor r)) (l .rows r) (λ out y. stored out (rowsTold r y) (countTold r (length out) y))
+  pub valueRowCount : (room : ℕ) → Reads Rrt (l .valueRowCount room) (valueCountTold room)
+  pub valueRows : Stores Rrt (l .valueRows) (λ out y. stored out (valueRowsTold y) (valueCountTold (length out) y))
   pub count : (w : Which) → Reads (kindFor w) (l .count w) (λ y. after (stringsTold w y) (λ ss. result (length ss)))
   pub heading : (w : Which) (k : ℕ) → Reads (kindFor w) (l .heading w k) (λ y. after (stringsTold w y) (λ ss. headingOf ss k))
   pub units : (w : Which) (k : ℕ) → Reads (kindFor w) (l .units w k) (λ y. after (stringsTold w y) (λ ss. unitsOf ss k))
   pub fieldCount : ReadsText (l .fieldCount) (λ ss. result (length ss))
   pub fieldHeading : (k : ℕ) → ReadsText (l .fieldHeading k) (λ ss. headingOf ss k)
   pub fieldUnits : (k : ℕ) → ReadsText (l .fieldUnits k) (λ ss. unitsOf ss k)
+  pub titleCounts : (rows units : ℕ) → Reads Eit (l .titleCounts rows units) (titlesTold rows units)
+  pub titleRows : (units : ℕ) → Stores Eit (l .titleRows units) (λ out y. stored out (titleRows y) (titlesTold (length out) units y))
+  pub titleUnits : (rows : ℕ) → Stores Eit (l .titleUnits rows) (λ out y. stored out (titleUnits y) (titlesTold rows (length out) y))

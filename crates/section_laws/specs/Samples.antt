@@ -1,7 +1,7 @@
--- Two well-formed records of each kind: one with as little in it as its kind allows, and one with an entry and texts. What is told of
+-- Two well-formed records of each kind: one with as little in it as its kind allows, and one with more entries and texts. What is told of
 -- the two differs for every sort of question, so each statement of Accepted.antt says something (proofs/).
 use Prim.Native.Nat.{ℕ}
-use mathlib.Core.List.{[], _∷_}
+use mathlib.Core.List.{List, [], _∷_}
 use mathlib.Core.Logic.{inl}
 use mathlib.Core.Option.{none}
 use Rattle.kind.specs.declared.Kind.{Kind}
@@ -67,12 +67,12 @@ teaChannel = record {
 abbrev pub teaEvent : descriptors contentAdvisory .Val → EventFields
 teaEvent ds = record { head = record { r1 = 3; id = 5; start = 1000; r2 = 3; etm = 0; seconds = 1800 }; title = asText tea; r = 15; descs = ds }
 
--- a dimension of one value, and an RRT of that dimension, with the text t wherever there is one
+-- a dimension of one value, and an RRT of that dimension and more, with the text t wherever there is one
 abbrev pub dimensionOf : text .Val → DimensionFields
 dimensionOf t = record { name = t; r = 7; scale = 1; values = record { short = t; long = t } ∷ [] }
 
-abbrev pub named : text .Val → RrtFields
-named t = record { name = t; dimensions = dimensionOf t ∷ []; r = 63; descs = noDescriptors noTag }
+abbrev pub named : text .Val → List DimensionFields → RrtFields
+named t more = record { name = t; dimensions = dimensionOf t ∷ more; r = 63; descs = noDescriptors noTag }
 
 -- ---- the two records of a kind: version 3, current, the only section of its table
 abbrev pub section : {k : Kind} → ℕ → bodyFormat k .Val → Section k
@@ -81,7 +81,7 @@ section n b = record { header = record { r1 = 3; extension = n; r2 = 3; version 
 abbrev pub bareBody : (k : Kind) → bodyFormat k .Val
 bareBody Mgt = record { tables = []; r = 15; descs = noDescriptors noTag }
 bareBody Tvct = record { channels = []; r = 63; descs = noDescriptors noTag }
-bareBody Rrt = named nothing
+bareBody Rrt = named nothing []
 bareBody Eit = record { events = [] }
 bareBody Ett = record { etm = 0; text = noStrings }
 
@@ -91,7 +91,7 @@ bare k = section 0 (bareBody k)
 abbrev pub fullBody : (k : Kind) → bodyFormat k .Val
 fullBody Mgt = record { tables = teaTable ∷ []; r = 15; descs = noDescriptors noTag }
 fullBody Tvct = record { channels = teaChannel ∷ []; r = 63; descs = noDescriptors noTag }
-fullBody Rrt = named (asText tea)
+fullBody Rrt = named (asText tea) (dimensionOf (asText tea) ∷ [])
 fullBody Eit = record { events = teaEvent advised ∷ [] }
 fullBody Ett = record { etm = 22; text = tea }
 

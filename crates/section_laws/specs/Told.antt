@@ -1,6 +1,6 @@
 -- SCOPE 2 to 4: what is told of a section's record to each question. Places are offsets of its encoding.
-use Prim.Native.Nat.{ℕ}
-use mathlib.Core.List.{List}
+use Prim.Native.Nat.{ℕ, _+_}
+use mathlib.Core.List.{List, [], _∷_, _++_}
 use mathlib.Core.Option.{Option, none, some}
 use lib.ListN.{length}
 use lib.Seq.{sets}
@@ -22,6 +22,7 @@ use Rattle.tvct.specs.Values as tvcts
 use Rattle.rrt.specs.declared.table.Table.{Table as RrtTable}
 use Rattle.rrt.specs.declared.dimension.Dimension.{Dimension as DimensionAnswer}
 use Rattle.rrt.specs.declared.dimension.ValueTexts.{ValueTexts}
+use Rattle.rrt.specs.Format.{valueFormat, DimensionFields, dimensionFormat}
 use Rattle.rrt.specs.Values as rrts
 use Rattle.eit.specs.declared.table.Table.{Table as EitTable}
 use Rattle.eit.specs.declared.event.Event.{Event as EventAnswer}
@@ -35,7 +36,7 @@ use Rattle.entry.specs.Records.{recordOf, entriesOf, beginOf, ofEntry, ofValue}
 use Rattle.reading.specs.Eits.{orNone}
 use Rattle.rows.specs.declared.Row.{Row}
 use Rattle.rows.specs.declared.Row.the-variants as row
-use Rattle.rows.specs.Rows.{entryFor, roomFor}
+use Rattle.rows.specs.Rows.{entryFor, width, roomFor}
 use Rattle.section_text.specs.declared.field.Which.{Which}
 use Rattle.section_text.specs.declared.field.Which.the-variants.{Title, Advisory, Extended, RegionName, DimensionName, ShortText, LongText}
 use Rattle.section_text.specs.Fields.{kindFor}
@@ -93,17 +94,39 @@ ettTold y = result (etts.fieldsFor (y .header .extension) (limitsOf Ett .body) (
 abbrev pub rowTold : (r : Row) → ℕ → recordOf (entryFor r) .Val → List ℕ
 rowTold row.Table a x = mgts.rowFor a x
 rowTold row.Channel a x = channels.rowFor a x
+rowTold row.Dimension d x = rrts.rowFor d x
 rowTold row.Event a x = eits.rowFor a x
 
 abbrev pub rowsTold : (r : Row) → Section (tableOf (entryFor r)) → List ℕ
 rowsTold r y = allOf (recordOf (entryFor r) .enc) (rowTold r) (beginOf (entryFor r) y) (entriesOf (entryFor r) y)
 
 abbrev pub countTold : (r : Row) → ℕ → Section (tableOf (entryFor r)) → Outcome ℕ
-countTold r room y = roomFor r (length (entriesOf (entryFor r) y)) room
+countTold r room y = roomFor (width r) (length (entriesOf (entryFor r) y)) room
 
-unfoldable pub stored : List ℕ → List ℕ → Outcome ℕ → List ℕ
+unfoldable pub stored : {A : Type 0} → List ℕ → List ℕ → Outcome A → List ℕ
 stored l rows (refused n) = l
 stored l rows (result n) = sets l 0 rows
+
+-- ---- the rows of all values of an RRT, of six numbers each
+-- what is told of values that stand one after the other, the first of which is number k and stands at a: by number, place and value
+unfoldable pub numbered : {X : Type 0} → (X → List ℕ) → (ℕ → ℕ → X → List ℕ) → ℕ → ℕ → List X → List ℕ
+numbered enc told k a [] = []
+numbered enc told k a (x ∷ xs) = told k a x ++ numbered enc told (k + 1) (a + length (enc x)) xs
+
+-- the rows of the values of dimension i, which begins at d
+abbrev pub dimensionRowsTold : ℕ → ℕ → DimensionFields → List ℕ
+dimensionRowsTold i d x = numbered (valueFormat .enc) (rrts.valueRowFor i) 0 (rrts.firstValueFor d x) (x .values)
+
+abbrev pub valueRowsTold : Section Rrt → List ℕ
+valueRowsTold y = numbered (dimensionFormat .enc) dimensionRowsTold 0 (beginOf Dimension y) (entriesOf Dimension y)
+
+-- their number
+unfoldable pub valuesIn : List DimensionFields → ℕ
+valuesIn [] = 0
+valuesIn (x ∷ xs) = length (x .values) + valuesIn xs
+
+abbrev pub valueCountTold : ℕ → Section Rrt → Outcome ℕ
+valueCountTold room y = roomFor 6 (valuesIn (entriesOf Dimension y)) room
 
 -- ---- the strings of a text
 abbrev pub stringsIn : Option (text .Val) → Outcome (List StringFields)

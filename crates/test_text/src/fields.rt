@@ -5,19 +5,19 @@ use crate::outputs::field;
 use crate::words;
 use test_lines::Vector;
 use test_lines::say;
-use text::Answer;
+use text::Count;
 
 fn asked(v: Vector, s: &[u8]) {
     words::heading(text::string_heading(s, v.c));
-    words::value(b" units", text::string_units(s, v.c));
+    words::amount(b" units", text::string_units(s, v.c));
 }
 
 pub fn answer(v: Vector, s: &[u8]) {
     let strings = text::count_strings(field(v, s));
-    words::value(b" strings", strings);
+    words::count(b" strings", strings);
     asked(v, field(v, s));
     outputs::answer(v, Source::Alone, s);
-    if let Answer::Value(_n) = strings {
+    if let Count::Is(_n) = strings {
         say(b" inside");
         outputs::answer(v, Source::Inside, s);
     }

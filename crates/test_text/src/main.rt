@@ -1,6 +1,7 @@
 // Reads the texts of tests/test_text.py. The op says what the bytes are: 1 and 2 a segment that is compressed so, 3 a text field from a
-// to b of the bytes, and 16 to 22 a section, of whose texts it says the sort (sections.rt). Of a field c is the number of the string and
-// d the room of the output in units.
+// to b of the bytes, 16 to 22 a section, of whose texts it says the sort (sections.rt), and 23 a section, of which all events and
+// titles are asked at once (events.rt). Of a field c is the number of the string and d the room of the output in units.
+mod events;
 mod fields;
 mod outputs;
 mod sections;
@@ -16,6 +17,7 @@ fn answer(v: Vector, s: &[u8]) {
         1 => segments::titled(s),
         2 => segments::described(s),
         3 => fields::answer(v, s),
+        23 => events::answer(v, s),
         _ => sections::answer(v, s),
     }
 }

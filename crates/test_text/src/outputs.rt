@@ -4,7 +4,7 @@ use part::part_of;
 use section_text::Which;
 use test_lines::Vector;
 use test_lines::told;
-use text::Answer;
+use text::Units;
 ghost use Prim.Native.Nat.{_≤_};
 
 // Where the text is read: in a field that is lent alone, in the same field as a part of other bytes, or in a section.
@@ -19,7 +19,7 @@ pub fn field(v: Vector, s: &[u8]) -> &[u8] {
     part_of(part_of(s, 0, v.b), v.a, v.b)
 }
 
-fn text(v: Vector, source: Source, s: &[u8], out: &mut [u16]) -> Answer {
+fn text(v: Vector, source: Source, s: &[u8], out: &mut [u16]) -> Units {
     match source {
         Source::Alone => text::string_text(field(v, s), v.c, out),
         Source::Inside => text::inner::string_text(s, v.b, v.a, v.c, out),
@@ -45,8 +45,8 @@ fn changed(out: &[u16], n: usize) -> usize {
 }
 
 // The number of units, how many others of the output changed, and the units.
-fn show(out: &[u16], a: Answer) {
-    let n = words::value(b" text", a);
+fn show(out: &[u16], a: Units) {
+    let n = words::amount(b" text", a);
     told(b" changed", changed(out, n));
     words::units(out, 0, n);
 }

@@ -20,8 +20,8 @@ fn which(v: Vector) -> Which {
 
 pub fn answer(v: Vector, s: &[u8]) {
     let w = which(v);
-    words::value(b" strings", section_text::count_strings(s, w));
+    words::count(b" strings", section_text::count_strings(s, w));
     words::heading(section_text::string_heading(s, w, v.c));
-    words::value(b" units", section_text::string_units(s, w, v.c));
+    words::amount(b" units", section_text::string_units(s, w, v.c));
     outputs::answer(v, Source::Within(w), s);
 }

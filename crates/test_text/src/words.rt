@@ -3,18 +3,30 @@ use test_lines::number;
 use test_lines::refused;
 use test_lines::say;
 use test_lines::told;
-use text::Answer;
+use text::Count;
 use text::Headed;
+use text::Units;
 
-// The number, and 0 for a refusal.
-pub fn value(name: &[u8], a: Answer) -> usize {
+pub fn count(name: &[u8], c: Count) {
     say(name);
-    match a {
-        Answer::Value(n) => {
-            number(n);
-            n
+    match c {
+        Count::Is(n) => number(n),
+        Count::Refused(r) => refused(r),
+    }
+}
+
+// The number of units, and 0 for a refusal. Where segments were replaced their number follows.
+pub fn amount(name: &[u8], u: Units) -> usize {
+    say(name);
+    match u {
+        Units::Are(a) => {
+            number(a.units);
+            if 0 < a.replaced {
+                told(b" replaced", a.replaced);
+            }
+            a.units
         }
-        Answer::Refused(r) => {
+        Units::Refused(r) => {
             refused(r);
             0
         }

@@ -1,0 +1,63 @@
+-- `of_rows` reads within its list, and ends.
+use Prim.Native.Nat.{_-_, _≤_}
+use lib.ListN.{length}
+use borrow.Author.Needs.{needs}
+use Rattle.test_text.proofs.events.of_rows.Statement.{statement}
+use Rattle.test_text.proofs.events.of_rows.Tie as tie
+
+abbrev Inv-loop : tie.InvT-loop
+Inv-loop l d₀ i₀ d i = i ≤ length l
+
+abbrev μ-loop : tie.MeasureT-loop
+μ-loop l d₀ i₀ d i = length l - i
+
+none-requires : tie.Need-none-requires Inv-loop μ-loop
+none-requires c κs = search needs
+
+loop-holds : tie.Need-loop-holds Inv-loop μ-loop
+loop-holds c = search needs
+
+mul-short : tie.Need-mul-short Inv-loop μ-loop
+mul-short c = search needs
+
+shared-slice-read-short : tie.Need-shared-slice-read-short Inv-loop μ-loop
+shared-slice-read-short c = search needs
+
+short-requires : tie.Need-short-requires Inv-loop μ-loop
+short-requires c κs = search needs
+
+number-requires : tie.Need-number-requires Inv-loop μ-loop
+number-requires c κs = search needs
+
+add-i : tie.Need-add-i Inv-loop μ-loop
+add-i c = search needs
+
+loop-less : tie.Need-loop-less Inv-loop μ-loop
+loop-less c = search needs
+
+loop-again : tie.Need-loop-again Inv-loop μ-loop
+loop-again c = search needs
+
+told-requires : tie.Need-told-requires Inv-loop μ-loop
+told-requires c κs = search needs
+
+returns : tie.Need-returns Inv-loop μ-loop
+returns c = search needs
+
+pub of-rows-spec : {M : Type 1} → statement M
+of-rows-spec =
+    tie.close
+    (tie.spec
+    Inv-loop
+    μ-loop
+    none-requires
+    loop-holds
+    mul-short
+    shared-slice-read-short
+    short-requires
+    number-requires
+    add-i
+    loop-less
+    loop-again
+    told-requires
+    returns)

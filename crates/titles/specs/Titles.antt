@@ -1,0 +1,114 @@
+-- SCOPE 2.4, 3.1, 4.4 and 6.2: all events of an EIT with the text of their titles, in two lent lists of numbers: 1 to 9, then 12.
+use Prim.Native.Nat.{ℕ, zero, suc, _+_, _*_}
+use mathlib.Core.List.{List, [], _∷_, _++_}
+use lib.ListN.{length}
+use lib.Seq.{sets}
+use Rattle.logic.specs.Choices.{ifLt}
+use Rattle.refusal.specs.Numbers.{numberOf}
+use Rattle.refusal.specs.Outcomes.{Outcome, refused, result, after}
+use Rattle.kind.specs.declared.Kind.the-variants.{Eit}
+use Rattle.kind.specs.Kinds.{limitsOf, onlyOf}
+use Rattle.part.specs.Parts.{bytesIn}
+use Rattle.text.specs.Strings.{stringUnits, stringReplaced}
+use Rattle.eit.specs.declared.event.Title.{Title}
+use Rattle.eit.specs.declared.event.Title.the-variants.{None, NoStrings, Text}
+use Rattle.eit.specs.Fields.{countAt, firstAt, titleAt, eventRow, eventEnd}
+use Rattle.section.specs.Sections.{sectionBy}
+use Rattle.titles.specs.declared.TitlesAnswer.{TitlesAnswer}
+use Rattle.titles.specs.declared.TitlesAnswer.the-variants.{Refused, Are}
+
+-- ---- a title
+-- what is told of it: that there is none; that it has no strings; the number that refuses the text of its first string; or the units of
+-- that text, and how many of its segments were replaced
+pub data Told : Type 0 where
+  noTitle : Told
+  noStrings : Told
+  refusedBy : ℕ → Told
+  text : List ℕ → ℕ → Told
+
+-- a text by its outcome, and how many of its segments were replaced
+unfoldable pub textTold : ℕ → Outcome (List ℕ) → Told
+textTold replaced (refused k) = refusedBy k
+textTold replaced (result us) = text us replaced
+
+unfoldable pub toldOf : List ℕ → Title → Told
+toldOf s None = noTitle
+toldOf s NoStrings = noStrings
+toldOf s (Text p) =
+    textTold (stringReplaced (bytesIn s p) (length (bytesIn s p)) 0 0) (stringUnits (bytesIn s p) (length (bytesIn s p)) 0 0)
+
+-- the title of the event that begins at a
+unfoldable pub titleTold : List ℕ → ℕ → Told
+titleTold s a = toldOf s (titleAt s a)
+
+-- the units that it adds
+unfoldable pub unitsTold : Told → List ℕ
+unitsTold noTitle = []
+unitsTold noStrings = []
+unitsTold (refusedBy k) = []
+unitsTold (text us replaced) = us
+
+-- what stands for a number that a title does not have: a blank is not a nought
+abbrev pub noValue : ℕ
+noValue = 0xFFFFFFFF
+
+-- four numbers: its sort (1 no title, 2 no strings, 3 text, and else the number that refuses it); where its units begin, how many they
+-- are, how many of its segments were replaced
+unfoldable pub blankRow : ℕ → List ℕ
+blankRow sort = sort ∷ noValue ∷ noValue ∷ noValue ∷ []
+
+unfoldable pub rowTold : ℕ → Told → List ℕ
+rowTold n noTitle = blankRow 1
+rowTold n noStrings = blankRow 2
+rowTold n (refusedBy k) = blankRow k
+rowTold n (text us replaced) = 3 ∷ n ∷ length us ∷ replaced ∷ []
+
+-- ---- the titles of k events, the first of which begins at a
+-- their units, one after the other
+unfoldable pub unitsFrom : List ℕ → ℕ → ℕ → List ℕ
+unitsFrom s zero a = []
+unitsFrom s (suc k) a = unitsTold (titleTold s a) ++ unitsFrom s k (eventEnd s a)
+
+-- their rows, where the units of the first begin at n: the eight numbers of the event, and the four of its title
+unfoldable pub rowsFrom : List ℕ → ℕ → ℕ → ℕ → List ℕ
+rowsFrom s n zero a = []
+rowsFrom s n (suc k) a =
+    (eventRow s a ++ rowTold n (titleTold s a)) ++ rowsFrom s (n + length (unitsTold (titleTold s a))) k (eventEnd s a)
+
+-- ---- a section
+-- how many events it has, and where the first begins
+abbrev pub eventCount : List ℕ → ℕ
+eventCount s = countAt s (limitsOf Eit .body)
+
+abbrev pub firstEvent : ℕ
+firstEvent = firstAt (limitsOf Eit .body)
+
+-- how many events and units there are
+pub record Counts : Type 0 where
+  pub events : ℕ
+  pub units : ℕ
+
+-- 12 where one of the two lists has no room: exactly enough is enough
+unfoldable pub roomFor : Counts → ℕ → ℕ → Outcome Counts
+roomFor c rows units = ifLt rows (12 * c .events) (refused 12) (ifLt units (c .units) (refused 12) (result c))
+
+-- of a section that was judged, in lists of these lengths
+unfoldable pub titlesIn : List ℕ → ℕ → ℕ → Outcome Counts
+titlesIn s rows units =
+    roomFor (record { events = eventCount s; units = length (unitsFrom s (eventCount s) firstEvent) }) rows units
+
+unfoldable pub titlesOf : List ℕ → ℕ → ℕ → Outcome Counts
+titlesOf s rows units = after (sectionBy (onlyOf Eit) s) (λ h. titlesIn s rows units)
+
+-- the two lists afterwards: what was asked for is stored from the beginning on, and nothing else changes
+unfoldable pub withRows : List ℕ → Outcome Counts → List ℕ → List ℕ
+withRows s (refused k) l = l
+withRows s (result c) l = sets l 0 (rowsFrom s 0 (c .events) firstEvent)
+
+unfoldable pub withUnits : List ℕ → Outcome Counts → List ℕ → List ℕ
+withUnits s (refused k) l = l
+withUnits s (result c) l = sets l 0 (unitsFrom s (c .events) firstEvent)
+
+abbrev pub titlesOutcome : TitlesAnswer → Outcome Counts
+titlesOutcome (Refused k) = refused (numberOf k)
+titlesOutcome (Are n m) = result (record { events = n; units = m })
