@@ -104,11 +104,43 @@ ALL_KINDS = b"".join(record(pid, s) for pid, s in (
     (8192, SILENT),  # 15
 ))
 
+# ---- the day sheets that examples/c/day_sheet.c prints, written out, so that they hang on no program
+DAY_SHEET = """\
+7.1 SCHOOL1
+  %d for 1200 s: "Morning News for Schools", Age: All
+  %d for 1200 s: "Mañana: los números", Age: All
+  %d for 1200 s: "The Nature Club", Age: All
+  %d for 1200 s: "A story of bees and honey.", Age: All
+  %d for 1200 s: "Sums with π at the Garden Gate", Age: All
+  %d for 1200 s: "Poems: "The Tyger"", Age: All
+  %d for 1200 s: "Weather", Age: All
+  %d for 1200 s: no title, not rated
+  %d for 1200 s: a title without text, not rated
+  %d for 1200 s: "", not rated
+  %d for 1200 s: a title that is not readable (10), not rated
+  %d for 1200 s: a title that is not readable (11), not rated
+7.2 SCHOOL2
+  no programmes
+""" % tuple(at(20 * n) for n in range(12))
+
+# half_heard: the same guide when one of two sections of SCHOOL1 and the ratings are still to come
+ONE = whole(EIT, programmes(1, LESSONS[:1], SUITS_ALL), extension=8, version=12)
+HALF_HEARD = b"".join(record(pid, s) for pid, s in ((EVENTS, DAY), (BASE, CHANNELS), (EVENTS, ONE), (BASE, MASTER)))
+HALF_SHEET = """\
+7.1 SCHOOL1
+  not yet heard
+7.2 SCHOOL2
+  %d for 1200 s: "Morning News for Schools", rating not yet heard
+""" % at(0)
+
 # rt runs the lister on its crate's own stdin: the first example
 LISTER = HERE.parent / "crates" / "lister"
 for path, data in ((HERE / "two_eits.bin", TWO_EITS), (HERE / "two_eits.txt", TWO_EITS_LISTED),
                    (LISTER / "stdin", TWO_EITS), (LISTER / "stdout", TWO_EITS_LISTED),
-                   (HERE / "all_kinds.bin", ALL_KINDS), (HERE / "all_kinds.txt", listed(ALL_KINDS))):
+                   (HERE / "all_kinds.bin", ALL_KINDS), (HERE / "all_kinds.txt", listed(ALL_KINDS)),
+                   (HERE / "c" / "all_kinds.txt", DAY_SHEET.encode()),
+                   (HERE / "half_heard.bin", HALF_HEARD), (HERE / "half_heard.txt", listed(HALF_HEARD)),
+                   (HERE / "c" / "half_heard.txt", HALF_SHEET.encode())):
     if sys.argv[1:] != ["--check"]:
         path.write_bytes(data)
     elif path.read_bytes() != data:

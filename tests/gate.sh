@@ -4,7 +4,7 @@
 set -u -o pipefail
 cd "$(dirname "$0")/.."
 
-for tool in rt python3 tee tail timeout diff; do
+for tool in rt python3 gcc tee tail timeout diff; do
     command -v "$tool" > /dev/null || { echo "FAILED missing tool: $tool"; exit 1; }
 done
 
@@ -31,9 +31,13 @@ done
 compare examples python3 examples/make.py --check
 compare lister_two_eits listed_as examples/two_eits
 compare lister_all_kinds listed_as examples/all_kinds
+compare lister_half_heard listed_as examples/half_heard
 compare lister_vectors python3 tests/lister_vectors.py
 compare annex_c_data python3 tools/check_annex_c.py
 compare annex_c_crate python3 tools/annex_c.py --check
+compare header python3 tests/header.py
+compare day_sheet_from_c sh examples/c/run.sh
+compare lent_from_c sh tests/lent/run.sh
 compare stack_of_each_call sh bench/stack.sh
 
 tail -n 1 "$said"

@@ -1,0 +1,53 @@
+use borrow.Author.Needs.{needs}
+use Rattle.guide.proofs.sections.header_numbers.Statement.{statement}
+use Rattle.guide.proofs.sections.header_numbers.Tie as tie
+use Rattle.guide.proofs.sections.header_numbers.Reads as reads
+use Rattle.guide.proofs.sections.header_numbers.Lts as lts
+use Rattle.guide.proofs.told.note.Reads as note-reads
+use Rattle.kind.proofs.Kind.table_id.Reads as table-id-reads
+
+-- src/sections.rt:22:14
+table-id-requires : tie.Need-table-id-requires
+table-id-requires c κs = search needs
+
+-- src/sections.rt:22:9
+note-requires : tie.Need-note-requires
+note-requires c κs = search needs
+
+-- src/sections.rt:23:9
+note-requires-2 : tie.Need-note-requires-2
+note-requires-2 c κs = search needs
+
+-- src/sections.rt:24:9
+note-requires-3 : tie.Need-note-requires-3
+note-requires-3 c κs = search needs
+
+-- src/sections.rt:25:9
+note-requires-4 : tie.Need-note-requires-4
+note-requires-4 c κs = search needs
+
+-- src/sections.rt:26:9
+note-requires-5 : tie.Need-note-requires-5
+note-requires-5 c κs = search needs
+
+-- src/sections.rt:27:9
+note-requires-6 : tie.Need-note-requires-6
+note-requires-6 c κs = search needs
+
+-- src/sections.rt:17:1
+returns : tie.Need-returns
+returns c =
+    rw (c .note6 .ensures, c .before .note5 .ensures, c .before .before .note4 .ensures, c .before .before .before .note3 .ensures, c .before .before .before .before .note2 .ensures, c .before .before .before .before .before .note .ensures, c .before .before .before .before .before .before .table-id .ensures)
+
+pub header-numbers-spec : {M : Type 1} → statement M
+header-numbers-spec =
+    tie.close
+    (tie.spec
+    table-id-requires
+    note-requires
+    note-requires-2
+    note-requires-3
+    note-requires-4
+    note-requires-5
+    note-requires-6
+    returns)
