@@ -1,9 +1,15 @@
 # make test: the gate. Proves and runs everything from nothing, then the comparisons.
-# make check: proves what changed.  make fmt: lays the sources out.  make speed: measures.
+# make check: proves what changed.  make fmt: lays the sources out.
 # make list: builds the lister and lists FILE.
-.PHONY: test check fmt speed list
+# make lib: builds target/guide/ARCH/libguide.a, for this machine or for ARCH=x86_64|aarch64.
+# make install PREFIX=.. DESTDIR=..: library, header, pkg-config file, lister and man pages.  make uninstall: takes them away.
+# make speed: measures.  make peers: measures beside other libraries.
+.PHONY: test check fmt speed peers list lib install uninstall
 SHELL := /bin/bash
 FILE ?= examples/two_eits.bin
+ARCH ?= $(shell uname -m)
+PREFIX ?= /usr/local
+into = $(DESTDIR)$(PREFIX)
 
 test:
 	@bash tests/gate.sh
@@ -14,11 +20,30 @@ check:
 fmt:
 	@rt fmt
 
-# The build says much; it is shown only where it fails.
 list:
-	@mkdir -p target
-	@rt check lister > target/list.log 2>&1 || { cat target/list.log; exit 1; }
-	@sh tools/run.sh target/bin/lister < "$(FILE)"
+	@[ -f "$(FILE)" ] || { echo "make list: there is no file '$(FILE)'"; exit 1; }
+	@[ -e target/guide/lister ] || echo "proving the lister first, which takes some minutes" >&2
+	@sh tools/lister.sh
+	@target/guide/lister < "$(FILE)"
+
+lib:
+	@[ -e target/guide/$(ARCH)/libguide.a ] || echo "proving the library first, which takes some minutes" >&2
+	@sh tools/lib.sh $(ARCH)
+	@echo target/guide/$(ARCH)/libguide.a
+
+install: lib
+	@sh tools/lister.sh
+	@install -d $(into)/lib/pkgconfig $(into)/include $(into)/bin $(into)/share/man/man1 $(into)/share/man/man3
+	@install -m 644 target/guide/$(ARCH)/libguide.a $(into)/lib/
+	@install -m 644 include/guide.h $(into)/include/
+	@sed 's,@PREFIX@,$(PREFIX),' tools/guide.pc > $(into)/lib/pkgconfig/guide.pc
+	@install -m 755 target/guide/lister $(into)/bin/
+	@install -m 644 docs/lister.1 $(into)/share/man/man1/
+	@install -m 644 docs/guide.3 $(into)/share/man/man3/
+
+uninstall:
+	@rm -f $(into)/lib/libguide.a $(into)/lib/pkgconfig/guide.pc $(into)/include/guide.h $(into)/bin/lister \
+		$(into)/share/man/man1/lister.1 $(into)/share/man/man3/guide.3
 
 speed:
 	@bash bench/checksum.sh
@@ -29,3 +54,6 @@ speed:
 	@bash bench/lent.sh
 	@bash bench/lister.sh
 	@bash bench/stack.sh
+
+peers:
+	@sh bench/peers.sh

@@ -2,6 +2,6 @@
 # Measures judging a whole section. Run it from the repository's root.
 set -e
 mkdir -p target/bench
-rt staticlib bench_calls >target/bench/build.log 2>&1 || { cat target/bench/build.log; exit 1; }
-gcc -std=gnu11 -O3 -Wall -Wextra -o target/bench/judge bench/judge.c target/staticlib/libbench_calls.a
+sh tools/staticlib.sh bench_calls
+gcc -std=gnu11 -O3 -Wall -Wextra -o target/bench/judge bench/judge.c target/lib/$(uname -m)/libbench_calls.a
 target/bench/judge

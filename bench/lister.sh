@@ -1,23 +1,22 @@
 #!/bin/sh
 # Measures the lister on 100 MB of sections of several sorts. Run it from the repository's root.
 set -e
-[ "$(uname -m)" = x86_64 ] || { echo "FAILED lister: the programs are for x86-64, and a time in an emulator says nothing"; exit 1; }
 mkdir -p target/bench
-rt staticlib bench_calls >target/bench/build.log 2>&1 || { cat target/bench/build.log; exit 1; }
-rt check lister >target/bench/build.log 2>&1 || { cat target/bench/build.log; exit 1; }
+sh tools/staticlib.sh bench_calls
+sh tools/lister.sh
 python3 bench/lister.py target/bench
-gcc -std=gnu11 -O3 -Wall -Wextra -o target/bench/lister bench/lister.c target/staticlib/libbench_calls.a
+gcc -std=gnu11 -O3 -Wall -Wextra -o target/bench/lister bench/lister.c target/lib/$(uname -m)/libbench_calls.a
 sorts="titled compressed lists small mixed"
 streams=
 for sort in $sorts; do
     # what is measured must also be right: no record refused, and all of them counted
-    target/bin/lister <"target/bench/$sort-10.bin" >target/bench/listed.txt
+    target/guide/lister <"target/bench/$sort-10.bin" >target/bench/listed.txt
     if grep -q -e refused -e bad target/bench/listed.txt || ! tail -n 1 target/bench/listed.txt | cmp -s - "target/bench/$sort-10.end"; then
         echo "FAILED lister: $sort"
         exit 1
     fi
     streams="$streams target/bench/$sort"
 done
-target/bench/lister target/bin/lister $streams
+target/bench/lister target/guide/lister $streams
 for sort in $sorts; do rm -f "target/bench/$sort-10.bin" "target/bench/$sort-100.bin"; done
 rm -f target/bench/listed.txt

@@ -7,17 +7,12 @@ before=
 [ "$(uname -m)" = x86_64 ] || before=$kit/bin/qemu-x86_64
 mkdir -p target/bench/stack
 failed=0
-built=
-for call in ${*:-judge open close status fetch deliver lent}; do
+for call in ${*:-judge text titles open close status fetch deliver lent}; do
     library=bench_calls
     [ "$call" = lent ] && library=lent
-    case " $built " in
-    *" $library "*) ;;
-    *) rt staticlib $library >target/bench/build.log 2>&1 || { cat target/bench/build.log; exit 1; } ;;
-    esac
-    built="$built $library"
+    sh tools/staticlib.sh $library x86_64
     "$kit/bin/clang" --target=x86_64-unknown-linux-gnu -std=gnu11 -O2 -Wall -Wextra -ffreestanding -nostdinc -nostdlib -static -fuse-ld=lld \
-        -Ibench -Ibench/bare -o "target/bench/stack/$call" "bench/stack/$call.c" target/staticlib/lib$library.a
+        -Ibench -Itests/lent -Itests/bare -o "target/bench/stack/$call" "bench/stack/$call.c" target/lib/x86_64/lib$library.a
     $before "target/bench/stack/$call" || failed=1
 done
 exit $failed

@@ -1,0 +1,24 @@
+#!/bin/sh
+# Proves a library and makes target/lib/ARCH/libNAME.a of it, for x86_64 and for aarch64: tools/staticlib.sh NAME [ARCH] fails where that for ARCH, this
+# machine's where none is named, was not made. What is newer than every source is left as it is, since the kit would prove it again. Run it
+# from the repository's root. The build says much; it is shown only where it fails.
+set -e
+lib=target/lib
+wanted=$lib/${2:-$(uname -m)}/lib$1.a
+if [ -e "$wanted" ] && [ -z "$(find crates crates.txt -type f -newer "$wanted" -print -quit)" ]; then
+    exit 0
+fi
+kit=$(sh tools/kit_for_both.sh)
+mkdir -p $lib/x86_64 $lib/aarch64
+rm -f $lib/*/lib"$1".a "$kit/arm.o" "$kit/arm.log"
+RATTLE_HOME=$kit rt staticlib "$1" >"$lib/$1.log" 2>&1 || { cat "$lib/$1.log"; exit 1; }
+mv "target/staticlib/lib$1.a" $lib/x86_64/
+if [ -e "$kit/arm.o" ]; then
+    mv "$kit/arm.o" "$lib/aarch64/$1.o"
+    "$(sh tools/kit.sh)/bin/llvm-ar" rcs "$lib/aarch64/lib$1.a" "$lib/aarch64/$1.o"
+fi
+if [ ! -e "$wanted" ]; then
+    echo "the compiler of the kit on this machine writes no such code:"
+    cat "$kit/arm.log"
+    exit 1
+fi
