@@ -95,12 +95,12 @@ def same(given, wanted, sizes):
 
 
 def layout(name, structs):
-    """The size, alignment and fields (path, offset) of a struct of the sources, by C's rules."""
+    """The size, alignment and fields (path, offset, size) of a struct of the sources, by C's rules."""
     at, align, fields = 0, 1, []
     for field, kind in structs[name]:
         size, own, inner = (WIDTHS[kind], WIDTHS[kind], None) if kind in WIDTHS else layout(kind, structs)
         at = -(-at // own) * own
-        fields += [(field + "." + path, at + x) for path, x in inner] if inner else [(field, at)]
+        fields += [(field + "." + path, at + x, n) for path, x, n in inner] if inner else [(field, at, size)]
         at, align = at + size, max(align, own)
     return -(-at // align) * align, align, fields
 
@@ -127,8 +127,9 @@ def main():
         for name, body in re.findall(r"pub struct (\w+) \{(.*?)\n\}", text_of("crates", path[0], "src", path[1]), flags=re.S):
             structs.setdefault(name, re.findall(r"pub (\w+): (\w+),", body))
     size, _, fields = layout("LentWatch", structs)
-    found = compiled(["sizeof(guide_watch)"] + ["offsetof(guide_watch, %s)" % path for path, _ in fields])
-    if found != [size] + [x for _, x in fields]:
+    asked = [words % path for path, _, _ in fields for words in ("offsetof(guide_watch, %s)", "sizeof((guide_watch *)0)->%s")]
+    found = compiled(["sizeof(guide_watch)"] + asked)
+    if found != [size] + [n for _, at, width in fields for n in (at, width)]:
         failed("guide_watch is laid out otherwise than LentWatch: %s, %s" % (found, fields))
 
     # refusals by name and number
