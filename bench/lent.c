@@ -12,8 +12,8 @@ enum { ROUNDS = 9, CALLS = 16384 };
 
 static uint32_t question[QUESTION] = {0, 0xCB, 7, 0};
 
-static uint32_t made(Call *c, const Section *s) {
-    return c(lent.watch, RECORDS, lent.place[0], PLACES * ROW, area, sizeof area, s->bytes, s->n, question, QUESTION, lent.reply, REPLY);
+static uint32_t made(guide_shelf_call c, const Section *s) {
+    return call_on(c, lent.watch, RECORDS, lent.place[0], PLACES * ROW, area, sizeof area, s->bytes, s->n, question, QUESTION, lent.reply, REPLY);
 }
 
 // The section with another version and number.
@@ -22,7 +22,7 @@ static void numbered(Section *s, const Section *from, unsigned version, unsigned
     renumber(s, version, number, QUOTA - 1);
 }
 
-static double best(Call *c, const Section *sections, size_t n) {
+static double best(guide_shelf_call c, const Section *sections, size_t n) {
     double least = 1e18;
     for (int k = 0; k < ROUNDS; k++) {
         uint32_t refused = 0;

@@ -12,7 +12,7 @@ for call in ${*:-judge text titles open close status fetch deliver lent}; do
     [ "$call" = lent ] && library=lent
     sh tools/staticlib.sh $library x86_64
     "$kit/bin/clang" --target=x86_64-unknown-linux-gnu -std=gnu11 -O2 -Wall -Wextra -ffreestanding -nostdinc -nostdlib -static -fuse-ld=lld \
-        -Ibench -Itests/lent -Itests/bare -o "target/bench/stack/$call" "bench/stack/$call.c" target/lib/x86_64/lib$library.a
+        -Ibench -Iinclude -Itests/lent -Itests/bare -o "target/bench/stack/$call" "bench/stack/$call.c" target/lib/x86_64/lib$library.a
     $before "target/bench/stack/$call" || failed=1
 done
 exit $failed

@@ -4,16 +4,16 @@
 #include "painted.h"
 #include "sections.h"
 
-static Call *made;
+static guide_shelf_call made;
 static Section delivered;
 static uint32_t question[QUESTION], refusal;
 
 static void call(void) {
-    refusal = made(lent.watch, RECORDS, lent.place[0], PLACES * ROW, area, sizeof area, delivered.bytes, delivered.n, question, QUESTION,
+    refusal = call_on(made, lent.watch, RECORDS, lent.place[0], PLACES * ROW, area, sizeof area, delivered.bytes, delivered.n, question, QUESTION,
                    lent.reply, REPLY);
 }
 
-static long stack_of_call(Call *c, uint32_t amount) {
+static long stack_of_call(guide_shelf_call c, uint32_t amount) {
     made = c;
     question[0] = LAST;
     question[1] = 0xCB;
@@ -31,7 +31,7 @@ static void tell(uint32_t code, uint32_t x, uint32_t y) {
 static void open_last(void) {
     fill();
     free_from(&lent, 0);
-    lent.watch[LAST] = (LentWatch){0};
+    lent.watch[LAST] = (guide_watch){0};
     expected = lent;
     expected.watch[LAST] = fresh_watch(LAST, 0xCB);
     long taken = stack_of_call(lent_open, QUOTA);
@@ -42,7 +42,7 @@ static void close_last(void) {
     fill();
     expected = lent;
     free_from(&expected, 0);
-    expected.watch[LAST] = (LentWatch){0};
+    expected.watch[LAST] = (guide_watch){0};
     long taken = stack_of_call(lent_close, 0);
     painted("lent_close", "the last record", taken, !refusal && as_expected());
 }

@@ -5,7 +5,7 @@
 enum { RECORDS = 16, PLACES = 64, PLACE = 4096, QUOTA = PLACES / RECORDS, LAST = RECORDS - 1 };
 
 typedef struct {
-    LentWatch watch[RECORDS];
+    guide_watch watch[RECORDS];
     uint32_t place[PLACES][ROW];
     uint32_t reply[REPLY];
 } Lent;
@@ -13,11 +13,11 @@ typedef struct {
 static uint8_t area[PLACES * PLACE];
 static Lent lent, expected;
 
-static LentWatch fresh_watch(unsigned w, unsigned table_id) {
-    return (LentWatch){.live = 1, .key = {w, table_id, 7}, .quota = QUOTA};
+static guide_watch fresh_watch(unsigned w, unsigned table_id) {
+    return (guide_watch){.live = 1, .key = {w, table_id, 7}, .quota = QUOTA};
 }
 
-static void hear(LentWatch *w, unsigned version, unsigned last) {
+static void hear(guide_watch *w, unsigned version, unsigned last) {
     w->heard = 1;
     w->version = version;
     w->last = last;
@@ -48,7 +48,7 @@ static inline void free_from(Lent *l, unsigned k) {
 }
 
 // By their fields: what stands between them is not told.
-static inline int same_watch(const LentWatch *a, const LentWatch *b) {
+static inline int same_watch(const guide_watch *a, const guide_watch *b) {
     return a->live == b->live && a->key.pid == b->key.pid && a->key.table_id == b->key.table_id && a->key.extension == b->key.extension &&
            a->quota == b->quota && a->heard == b->heard && a->version == b->version && a->last == b->last;
 }

@@ -1,3 +1,4 @@
 // The kit's clang comes without headers.
 #pragma once
 typedef __SIZE_TYPE__ size_t;
+#define NULL ((void *)0)

@@ -7,7 +7,7 @@
 enum { RECORDS = 16, PLACES = 64, PLACE = 4096, HEAD = 35, LONGEST = 65535, GUARD = 0xA5 };
 
 typedef struct {
-    LentWatch watch[RECORDS + 1];
+    guide_watch watch[RECORDS + 1];
     uint32_t row[PLACES + 1][ROW];
     uint32_t reply[REPLY + 1];
 } Lent;
@@ -66,7 +66,7 @@ static unsigned long digest_of_shelf(void) {
     Sums d = NONE;
     add(&d, records);
     for (size_t i = 0; i < records; i++) {
-        const LentWatch *w = &lent.watch[i];
+        const guide_watch *w = &lent.watch[i];
         const uint64_t fields[] = {w->live, w->key.pid, w->key.table_id, w->key.extension, w->quota, w->heard, w->version, w->last};
         for (size_t k = 0; k < sizeof fields / sizeof *fields; k++)
             add(&d, fields[k]);
@@ -108,8 +108,8 @@ static void shelf_of(size_t place_count, size_t record_count) {
     memset(lent.row, 0, places * sizeof *lent.row);
 }
 
-static uint32_t call(Call *c, size_t skipped, size_t n) {
-    return c(lent.watch, records, lent.row[0], places * ROW, area, area_size, bytes + skipped, n - skipped, question, QUESTION, lent.reply, REPLY);
+static uint32_t call(guide_shelf_call c, size_t skipped, size_t n) {
+    return call_on(c, lent.watch, records, lent.row[0], places * ROW, area, area_size, bytes + skipped, n - skipped, question, QUESTION, lent.reply, REPLY);
 }
 
 static void ask(size_t n, unsigned amount) {
@@ -130,7 +130,7 @@ static void put_status(uint32_t refusal) {
     if (refusal) {
         put_answer(refusal);
     } else if (lent.reply[0] == 1) {
-        put(lent.reply[1] == NO_VALUE && lent.reply[2] == NO_VALUE ? " nothing heard" : " a value for a blank");
+        put(lent.reply[1] == GUIDE_NO_VALUE && lent.reply[2] == GUIDE_NO_VALUE ? " nothing heard" : " a value for a blank");
     } else if (lent.reply[0] == 2) {
         put_number(lent.reply[1]);
         put_told(" of", lent.reply[2]);

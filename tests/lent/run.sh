@@ -10,7 +10,7 @@ mkdir -p target/lent
 sh tools/staticlib.sh lent x86_64
 for program in histories unruly; do
     "$kit/bin/clang" --target=x86_64-unknown-linux-gnu -std=gnu11 -O2 -Wall -Wextra -ffreestanding -nostdinc -nostdlib -static -fuse-ld=lld \
-        -Itests/lent -Itests/bare -o target/lent/$program tests/lent/$program.c target/lib/x86_64/liblent.a
+        -Iinclude -Itests/lent -Itests/bare -o target/lent/$program tests/lent/$program.c target/lib/x86_64/liblent.a
 done
 $before target/lent/histories <crates/test_lent/stdin | diff crates/test_lent/stdout -
 $before target/lent/unruly

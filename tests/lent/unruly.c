@@ -6,7 +6,7 @@
 enum { RECORDS = 17, PLACES = 65, PLACE = 4096, SHELF = 14, RANGE = 15, NO_WATCH = 17, NOT_HELD = 22, JUNK = 0x5A };
 
 typedef struct {
-    LentWatch watch[RECORDS];
+    guide_watch watch[RECORDS];
     uint32_t row[PLACES][ROW];
     uint32_t question[QUESTION + 1];
     uint32_t reply[REPLY + 1];
@@ -25,18 +25,18 @@ static void sound_shelf(void) {
     lent.area = 3 * PLACE;
     lent.asked = QUESTION;
     lent.told = REPLY;
-    lent.watch[0] = (LentWatch){.live = 1, .key = {0x1D00, 0xCB, 7}, .quota = 2};
+    lent.watch[0] = (guide_watch){.live = 1, .key = {0x1D00, 0xCB, 7}, .quota = 2};
     const uint32_t question[QUESTION] = {0x1D00, 0xCB, 7, 0};
     memcpy(lent.question, question, sizeof question);
     memset(lent.reply, JUNK, sizeof lent.reply);
 }
 
-static uint32_t call(Call *c) {
+static uint32_t call(guide_shelf_call c) {
     static const uint8_t cut[] = {0xCB, 0xF0};
-    return c(lent.watch, lent.records, lent.row[0], lent.numbers, area, lent.area, cut, sizeof cut, lent.question, lent.asked, lent.reply, lent.told);
+    return call_on(c, lent.watch, lent.records, lent.row[0], lent.numbers, area, lent.area, cut, sizeof cut, lent.question, lent.asked, lent.reply, lent.told);
 }
 
-static void expect(const char *name, const char *called, Call *c, uint32_t refusal) {
+static void expect(const char *name, const char *called, guide_shelf_call c, uint32_t refusal) {
     before = lent;
     uint32_t got = call(c);
     if (got == refusal && (!refusal || same(&lent, &before, sizeof lent)))
@@ -100,7 +100,7 @@ static void taken(unsigned place, uint32_t used, uint32_t watch, uint32_t number
     memcpy(lent.row[place], row, sizeof row);
 }
 
-static void hears(LentWatch *w, unsigned last) {
+static void hears(guide_watch *w, unsigned last) {
     w->heard = 1;
     w->version = 3;
     w->last = last;
@@ -151,7 +151,7 @@ static void allowed(void) {
     lent.watch[0].live = JUNK;
     expect("junk where nothing is kept", ", status: ", lent_status, 0);
     if (!same(&lent.watch, &before.watch, sizeof lent.watch) || !same(lent.row, before.row, sizeof lent.row) || lent.reply[0] != 1 ||
-        lent.reply[1] != NO_VALUE || lent.reply[2] != NO_VALUE || lent.reply[3] != before.reply[3]) {
+        lent.reply[1] != GUIDE_NO_VALUE || lent.reply[2] != GUIDE_NO_VALUE || lent.reply[3] != before.reply[3]) {
         say("FAILED junk: changed, or heard\n");
         failed = 1;
     }
