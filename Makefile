@@ -27,7 +27,6 @@ list:
 	@target/guide/lister < "$(FILE)"
 
 lib:
-	@[ -e target/guide/$(ARCH)/libguide.a ] || echo "proving the library first, which takes some minutes" >&2
 	@sh tools/lib.sh $(ARCH)
 	@echo target/guide/$(ARCH)/libguide.a
 
