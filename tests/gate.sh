@@ -37,6 +37,8 @@ compare annex_c_data python3 tools/check_annex_c.py
 compare annex_c_crate python3 tools/annex_c.py --check
 compare header python3 tests/header.py
 compare day_sheet_from_c sh examples/c/run.sh
+compare calls_from_c sh tests/calls/run.sh
+compare readme python3 tests/readme.py
 compare lent_from_c sh tests/lent/run.sh
 compare stack_of_each_call sh bench/stack.sh
 
