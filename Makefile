@@ -51,6 +51,7 @@ speed:
 	@bash bench/titles.sh
 	@bash bench/shelf.sh
 	@bash bench/lent.sh
+	@sh bench/sizes.sh
 	@bash bench/lister.sh
 	@bash bench/stack.sh
 
