@@ -38,6 +38,7 @@ compare annex_c_crate python3 tools/annex_c.py --check
 compare checksum_crate python3 tools/checksum_tables.py --check
 compare header python3 tests/header.py
 compare day_sheet_from_c sh examples/c/run.sh
+compare checksum_tables_there python3 tests/tables_there.py
 compare lent_from_c sh tests/lent/run.sh
 compare stack_of_each_call sh bench/stack.sh
 

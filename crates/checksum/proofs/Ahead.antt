@@ -84,7 +84,7 @@ byte-alone x =
     byte-zeros x 0 ∙ ap (zeros 8) (xor-zero-l (x % 256 * 2 ^ 24) ∙ sym (zeros-low 24 (x % 256) (omega arith))) ∙ zeros-zeros 8 24 (x % 256)
 
 -- a byte is added to the top of the number, and comes back
-pub byte-ahead : (q a x : ℕ) → StandsFor (zeros 8 q) a → bitsIn 8 x q ≡ bitXor (zeros 32 (bitXor (a / 2 ^ 32) x % 256)) (a % 2 ^ 32)
+byte-ahead : (q a x : ℕ) → StandsFor (zeros 8 q) a → bitsIn 8 x q ≡ bitXor (zeros 32 (bitXor (a / 2 ^ 32) x % 256)) (a % 2 ^ 32)
 byte-ahead q a x h =
     let hi = a / 2 ^ 32 in
     let lo = a % 2 ^ 32 in

@@ -1,8 +1,8 @@
 // The checksum of a section: CRC_32 of ITU-T H.222.0, annex A.
-// A register that takes a byte has to wait for the byte before it. So up to sixteen bytes at once are looked up side by
-// side, each with what the bits after it make of it, and added. What is looked up is not reduced to 32 bits: a number of
-// 40 bits stands for the register, eight bits ahead (specs/Ahead.antt). It takes one byte more to come back to the
-// register itself, so a block of bytes goes in only where another byte follows it.
+// A byte has to wait for the register that the byte before it leaves. So up to sixteen bytes are looked up side by side,
+// each as what the bits after it will make of it (src/tables.rt), and what is looked up is added. It has 40 bits, and is
+// not brought down to 32: it stands for the register eight bits ahead (specs/Ahead.antt). One byte more leads back to the
+// register itself, so a block goes in only where another byte follows it.
 
 ghost use mathlib.Core.Path.{_≡_};
 ghost use mathlib.Core.List.{[], _∷_};
@@ -38,7 +38,7 @@ fn byte_in(r: u32, x: u8) -> u32
     q
 }
 
-// The number whose four bytes these are. (The compiler reads it from memory at once.)
+// The number whose four bytes these are: as one number they are added to a register at once.
 fn number(x0: u8, x1: u8, x2: u8, x3: u8) -> u64
     ensures { λ w. ⌜ (w < 2 ^ 32) × (fourBytes w ≡ x0 ∷ x1 ∷ x2 ∷ x3 ∷ []) ⌝ }
 {
@@ -52,7 +52,7 @@ fn four(s: &[u8], at: usize) -> u64
     number(s[at], s[at + 1], s[at + 2], s[at + 3])
 }
 
-// From what stands for a register eight bits ahead, what stands for it after the byte `x`, as far ahead.
+// From what stands for the register eight bits ahead, what stands for it after the byte `x`, as far ahead.
 fn one_more(a: u64, x: u8) -> u64
     ensures { λ b. ⌜ After (x ∷ []) a 8 b ⌝ }
 {
@@ -108,7 +108,8 @@ fn last_byte(a: u64, x: u8) -> u32
     byte_in(top << 24, x) ^ low
 }
 
-// The register after the bytes of `s` from `at` on, of which there are one or two.
+// The register after the bytes of `s` from `at` on, of which there are one or two. (One call after the `if` and none in
+// its arms: what is called once is put into its caller, and no frame is made.)
 fn up_to_2(a: u64, s: &[u8], at: usize) -> u32
     requires { ⌜ (at < length (now s)) × (length (now s) ≤ at + 2) ⌝ }
     ensures { λ r. ⌜ End (drop at (now (s .entry))) a r ⌝ }

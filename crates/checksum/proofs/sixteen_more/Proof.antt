@@ -2,7 +2,6 @@
 -- Assumes nothing.
 use borrow.Author.Needs.{needs}
 use native.Mathlib.Omega.{arith}
-use Rattle.checksum.proofs.Steps.{zeros-of-zero}
 use Rattle.checksum.proofs.Ahead.{ahead}
 use Rattle.checksum.proofs.Blocks.{two-eights}
 use Rattle.checksum.proofs.sixteen_more.Statement.{statement}
