@@ -1,5 +1,6 @@
 // The checksum of the library against a byte table in C: time per call, and the stack that a call takes.
-// Both sides take the same bytes in the same run, and their registers are compared.
+// Both sides take the same bytes in the same run, and their registers are compared. A round is short, since on a busy machine a long one is
+// always interrupted.
 #define _GNU_SOURCE
 #include <stdint.h>
 #include <stdio.h>
@@ -13,7 +14,7 @@ uint32_t bench_register(const uint8_t *s, size_t n);
 
 typedef uint32_t (*Register)(const uint8_t *s, size_t n);
 
-enum { ROUNDS = 9, LONGEST = 4096, STARTS = 64, BYTES_A_ROUND = 1 << 21 };
+enum { ROUNDS = 199, LONGEST = 4096, STARTS = 64, BYTES_A_ROUND = 1 << 17 };
 
 static uint32_t table[256];
 static uint8_t bytes[LONGEST + STARTS];
@@ -79,7 +80,7 @@ static volatile uint32_t result;
 static void on_the_stack(void) { result = bench_register(bytes, LONGEST); }
 
 int main(void) {
-    static const size_t sizes[] = {16, 64, 100, 255, 256, 512, 1024, 4092, 4096};
+    static const size_t sizes[] = {14, 16, 37, 64, 90, 255, 256, 1024, 1700, 4092, 4096};
     fill();
     for (size_t n = 0; n <= LONGEST; n++)
         same(c_register(bytes + n % STARTS, n), bench_register(bytes + n % STARTS, n), n);

@@ -7,7 +7,7 @@ before=
 [ "$(uname -m)" = x86_64 ] || before=$kit/bin/qemu-x86_64
 mkdir -p target/bench/stack
 failed=0
-for call in ${*:-judge text titles open close status fetch deliver lent}; do
+for call in ${*:-checksum judge text titles open close status fetch deliver lent}; do
     library=bench_calls
     [ "$call" = lent ] && library=lent
     sh tools/staticlib.sh $library x86_64

@@ -1,8 +1,9 @@
 mod Xor
 mod Steps
 mod Bytes
-mod Loops
-mod Folding
-mod Streams
+mod Words
+mod Ahead
+mod Turns
+mod Blocks
 pub mod Sealing
 mod Checked

@@ -1,14 +1,18 @@
 // The checksum of a section: CRC_32 of ITU-T H.222.0, annex A.
-// There is no table here, since a constant array is laid on the stack anew at each call: the compiler knows the loop
-// in `byte_in` for a checksum and makes a table of its own, in read-only memory. A byte has to wait for the one before
-// it, so long sections go into four registers side by side.
+// A byte has to wait for the register that the byte before it leaves. So up to sixteen bytes are looked up side by side,
+// each as what the bits after it will make of it (src/tables.rt), and what is looked up is added. It has 40 bits, and is
+// not brought down to 32: it stands for the register eight bits ahead (specs/Ahead.antt). One byte more leads back to the
+// register itself, so a block goes in only where another byte follows it.
 
 ghost use mathlib.Core.Path.{_≡_};
-ghost use Prim.Native.Nat.{_+_, _*_, _%_, _≤_};
+ghost use mathlib.Core.List.{[], _∷_};
+ghost use Prim.Native.Nat.{_+_, _^_, _≤_, _<_};
 ghost use lib.Dec.{eqb};
-ghost use lib.Bits.{bitXor};
 ghost use lib.ListN.{length, take, drop};
-ghost use Rattle.checksum.specs.Register.{bitIn, bitsIn, registerFrom, register};
+ghost use Rattle.checksum.specs.Register.{bitIn, bitsIn, registerFrom, register, fourBytes};
+ghost use Rattle.checksum.specs.Ahead.{After, End};
+
+mod tables;
 
 // The register after a bit 0.
 fn shift(r: u32) -> u32
@@ -34,74 +38,147 @@ fn byte_in(r: u32, x: u8) -> u32
     q
 }
 
-// The register after the bytes of `s` from `at` on.
-fn bytes_in(r: u32, s: &[u8], at: usize) -> u32
-    ensures { λ q. ⌜ q ≡ registerFrom r (drop at (now (s .entry))) ⌝ }
+// The number whose four bytes these are: as one number they are added to a register at once.
+fn number(x0: u8, x1: u8, x2: u8, x3: u8) -> u64
+    ensures { λ w. ⌜ (w < 2 ^ 32) × (fourBytes w ≡ x0 ∷ x1 ∷ x2 ∷ x3 ∷ []) ⌝ }
 {
-    let mut q = r;
+    ((x0 as u64) << 24) + ((x1 as u64) << 16) + ((x2 as u64) << 8) + (x3 as u64)
+}
+
+fn four(s: &[u8], at: usize) -> u64
+    requires { ⌜ at + 4 ≤ length (now s) ⌝ }
+    ensures { λ w. ⌜ (w < 2 ^ 32) × (fourBytes w ≡ take 4 (drop at (now (s .entry)))) ⌝ }
+{
+    number(s[at], s[at + 1], s[at + 2], s[at + 3])
+}
+
+// From what stands for the register eight bits ahead, what stands for it after the byte `x`, as far ahead.
+fn one_more(a: u64, x: u8) -> u64
+    ensures { λ b. ⌜ After (x ∷ []) a 8 b ⌝ }
+{
+    tables::byte_40((a >> 32) ^ (x as u64)) ^ ((a % 0x1_0000_0000) << 8)
+}
+
+// The same after two bytes.
+fn two_more(a: u64, x: u8, y: u8) -> u64
+    ensures { λ b. ⌜ After (x ∷ y ∷ []) a 8 b ⌝ }
+{
+    tables::byte_48((a >> 32) ^ (x as u64))
+        ^ (tables::byte_40((a >> 24) ^ (y as u64)) ^ ((a % 0x100_0000) << 16))
+}
+
+// The same after four bytes of `s`.
+fn four_more(a: u64, s: &[u8], at: usize) -> u64
+    requires { ⌜ at + 4 ≤ length (now s) ⌝ }
+    ensures { λ b. ⌜ After (take 4 (drop at (now (s .entry)))) a 8 b ⌝ }
+{
+    tables::word_40((a >> 8) ^ four(s, at)) ^ ((a % 256) << 32)
+}
+
+// The same after eight.
+fn eight_more(a: u64, s: &[u8], at: usize) -> u64
+    requires { ⌜ at + 8 ≤ length (now s) ⌝ }
+    ensures { λ b. ⌜ After (take 8 (drop at (now (s .entry)))) a 8 b ⌝ }
+{
+    tables::word_72((a >> 8) ^ four(s, at)) ^ tables::word_40(((a % 256) << 24) ^ four(s, at + 4))
+}
+
+// The same after eight and 64 bits 0.
+fn eight_far(a: u64, s: &[u8], at: usize) -> u64
+    requires { ⌜ at + 8 ≤ length (now s) ⌝ }
+    ensures { λ b. ⌜ After (take 8 (drop at (now (s .entry)))) a 72 b ⌝ }
+{
+    tables::word_136((a >> 8) ^ four(s, at)) ^ tables::word_104(((a % 256) << 24) ^ four(s, at + 4))
+}
+
+// The same after sixteen: the second eight need not wait for the first.
+fn sixteen_more(a: u64, s: &[u8], at: usize) -> u64
+    requires { ⌜ at + 16 ≤ length (now s) ⌝ }
+    ensures { λ b. ⌜ After (take 16 (drop at (now (s .entry)))) a 8 b ⌝ }
+{
+    eight_far(a, s, at) ^ eight_more(0, s, at + 8)
+}
+
+// The register itself, after the byte `x`.
+fn last_byte(a: u64, x: u8) -> u32
+    ensures { λ r. ⌜ End (x ∷ []) a r ⌝ }
+{
+    let top = (a >> 32) as u32;
+    let low = (a % 0x1_0000_0000) as u32;
+    byte_in(top << 24, x) ^ low
+}
+
+// The register after the bytes of `s` from `at` on, of which there are one or two. (One call after the `if` and none in
+// its arms: what is called once is put into its caller, and no frame is made.)
+fn up_to_2(a: u64, s: &[u8], at: usize) -> u32
+    requires { ⌜ (at < length (now s)) × (length (now s) ≤ at + 2) ⌝ }
+    ensures { λ r. ⌜ End (drop at (now (s .entry))) a r ⌝ }
+{
+    let mut b = a;
     let mut i = at;
-    while i < s.len() {
-        q = byte_in(q, s[i]);
-        i += 1;
+    if s.len() - at > 1 {
+        b = one_more(a, s[at]);
+        i = at + 1;
     }
-    q
+    last_byte(b, s[i])
 }
 
-// `c` where `x` is odd, and else 0.
-fn where_odd(x: u32, c: u32) -> u32
-    ensures { λ q. ⌜ q ≡ c * (x % 2) ⌝ }
+// The same of one to four bytes.
+fn up_to_4(a: u64, s: &[u8], at: usize) -> u32
+    requires { ⌜ (at < length (now s)) × (length (now s) ≤ at + 4) ⌝ }
+    ensures { λ r. ⌜ End (drop at (now (s .entry))) a r ⌝ }
 {
-    if x % 2 == 0 { 0 } else { c }
+    let mut b = a;
+    let mut i = at;
+    if s.len() - at > 2 {
+        b = two_more(a, s[at], s[at + 1]);
+        i = at + 2;
+    }
+    up_to_2(b, s, i)
 }
 
-// The register after four parts of 64 bytes, from the registers of the parts: each has yet to take a bit 0 for every
-// bit of the parts after it. The constants are what 1536, 1024 and 512 bits 0 make of the register 1.
-fn fold(q0: u32, q1: u32, q2: u32, q3: u32) -> u32
-    ensures { λ q. ⌜ q ≡ bitXor (bitXor (bitXor (bitsIn 1536 0 q0) (bitsIn 1024 0 q1)) (bitsIn 512 0 q2)) q3 ⌝ }
+// The same of one to eight bytes.
+fn up_to_8(a: u64, s: &[u8], at: usize) -> u32
+    requires { ⌜ (at < length (now s)) × (length (now s) ≤ at + 8) ⌝ }
+    ensures { λ r. ⌜ End (drop at (now (s .entry))) a r ⌝ }
 {
-    let mut a = 0u32;
-    let mut j = 32u32;
-    while j > 0 {
-        j -= 1;
-        a = shift(a)
-            ^ (where_odd(q0 >> j, 0xd253_6d46)
-                ^ where_odd(q1 >> j, 0x567f_ddeb)
-                ^ where_odd(q2 >> j, 0xe622_8b11));
+    let mut b = a;
+    let mut i = at;
+    if s.len() - at > 4 {
+        b = four_more(a, s, at);
+        i = at + 4;
     }
-    a ^ q3
+    up_to_4(b, s, i)
 }
 
-// The register after the 256 bytes of `s` from `at` on: the first part goes on from `r`, the others start at 0.
-fn block(r: u32, s: &[u8], at: usize) -> u32
-    requires { ⌜ at + 256 ≤ length (now s) ⌝ }
-    ensures { λ q. ⌜ q ≡ registerFrom r (take 256 (drop at (now (s .entry)))) ⌝ }
+// The same of one to sixteen bytes.
+fn up_to_16(a: u64, s: &[u8], at: usize) -> u32
+    requires { ⌜ (at < length (now s)) × (length (now s) ≤ at + 16) ⌝ }
+    ensures { λ r. ⌜ End (drop at (now (s .entry))) a r ⌝ }
 {
-    let mut q0 = r;
-    let mut q1 = 0u32;
-    let mut q2 = 0u32;
-    let mut q3 = 0u32;
-    let mut j = 0;
-    while j < 64 {
-        q0 = byte_in(q0, s[at + j]);
-        q1 = byte_in(q1, s[at + 64 + j]);
-        q2 = byte_in(q2, s[at + 128 + j]);
-        q3 = byte_in(q3, s[at + 192 + j]);
-        j += 1;
+    let mut b = a;
+    let mut i = at;
+    if s.len() - at > 8 {
+        b = eight_more(a, s, at);
+        i = at + 8;
     }
-    fold(q0, q1, q2, q3)
+    up_to_8(b, s, i)
 }
 
 // The register after the bytes of `s`, from `r` on.
 pub fn register_from(r: u32, s: &[u8]) -> u32
     ensures { λ q. ⌜ q ≡ registerFrom r (now (s .entry)) ⌝ }
 {
-    let mut q = r;
-    let mut i = 0;
-    while s.len() - i >= 256 {
-        q = block(q, s, i);
-        i += 256;
+    if s.len() == 0 {
+        return r;
     }
-    bytes_in(q, s, i)
+    let mut a = (r as u64) << 8;
+    let mut i = 0;
+    while s.len() - i > 16 {
+        a = sixteen_more(a, s, i);
+        i += 16;
+    }
+    up_to_16(a, s, i)
 }
 
 // The register after the bytes of `s`, from its start.
