@@ -5,11 +5,16 @@ The inputs with a `meant` also say here what must come out, and lister.py must a
 answer does not hang on one reader alone. At the first difference the input is saved, the lines are
 shown, and the exit is 1. Another program can be named: python3 tests/lister_vectors.py PROGRAM
 """
+import bisect
 import concurrent.futures
+import itertools
 import os
 import pathlib
 import random
+import re
 import select
+import signal
+import socket
 import struct
 import subprocess
 import sys
@@ -29,6 +34,7 @@ LISTER = sys.argv[1] if len(sys.argv) > 1 else ROOT / "target" / "bin" / "lister
 RUN = subprocess.check_output(["sh", ROOT / "tools" / "run.sh"], text=True).split() + [LISTER]
 FAILED = ROOT / "target" / "lister-failed.bin"
 LIMIT = 10  # seconds that one run may take
+ROOM = 65536  # bytes of input that the lister has room for
 PID = 0x1D00
 
 EXAMPLE = """\
@@ -412,8 +418,9 @@ def compared(vector):
     return None
 
 
-def left_unread(data, size):
-    """From a file no more is read than `size` bytes, the records up to the bad one and that one."""
+def left_unread(data):
+    """From a file no more is read past a bad record than the lister has room for."""
+    assert len(data) > ROOM
     with tempfile.TemporaryFile() as file:
         file.write(data)
         file.seek(0)
@@ -421,8 +428,62 @@ def left_unread(data, size):
         at = os.lseek(file.fileno(), 0, os.SEEK_CUR)
     if run.stdout != listed(data):
         failed("from a file", data, listed(data), run.stdout)
-    if at > size:
-        failed("%d bytes were read where %d were enough" % (at, size), data, b"", b"")
+    if at > ROOM:
+        failed("%d bytes were read" % at, data, b"", b"")
+
+
+def unreadable(stdin, words, **how):
+    """Input that cannot be read: a bad record, and one line of words about it."""
+    run = subprocess.run(RUN, stdin=stdin, capture_output=True, timeout=LIMIT, **how)
+    meant = b"guide lister\n0 bad record\nend 0\n"
+    if run.stdout != meant or run.returncode:
+        failed("input that cannot be read", b"", meant, run.stdout)
+    if run.stderr != words:
+        failed("the words on input that cannot be read", b"", words, run.stderr)
+
+
+def broken_off(data, seen, rest):
+    """A connection that is reset when `seen` came out of `data`; `rest`: what comes then."""
+    with socket.create_server(("127.0.0.1", 0)) as server:
+        ours = socket.create_connection(server.getsockname())
+        theirs, _ = server.accept()
+    with theirs:
+        run = subprocess.Popen(RUN, stdin=theirs, stdout=subprocess.PIPE, stderr=subprocess.PIPE, bufsize=0)
+    try:
+        ours.sendall(data)
+        found = heard(run.stdout, len(seen), time.monotonic() + LIMIT)
+        ours.setsockopt(socket.SOL_SOCKET, socket.SO_LINGER, struct.pack("ii", 1, 0))
+        ours.close()
+        out, words = run.communicate(timeout=LIMIT)
+        if found + out != seen + rest or run.returncode:
+            failed("a connection that is reset", data, seen + rest, found + out)
+        if words != b"lister: cannot read the input: Connection reset by peer\n":
+            failed("the words on a connection that is reset", data, b"", words)
+    finally:
+        run.kill()
+        run.wait()
+
+
+def unwritable(stdout, status, **how):
+    """Where the output takes no more the lister ends, though the input goes on."""
+    ours, theirs = os.pipe()
+    run = subprocess.Popen(RUN, stdin=ours, stdout=stdout, stderr=subprocess.PIPE, **how)
+    os.close(ours)
+    try:
+        _, words = run.communicate(timeout=LIMIT)
+        if run.returncode != status or words:
+            failed("an output that takes no more: exit %d, errors %r" % (run.returncode, words), b"", b"", b"")
+    finally:
+        os.close(theirs)
+        run.kill()
+        run.wait()
+
+
+def no_reader():
+    """A pipe that nobody reads."""
+    ours, theirs = os.pipe()
+    os.close(ours)
+    return theirs
 
 
 def heard(pipe, n, until):
@@ -437,25 +498,26 @@ def heard(pipe, n, until):
 
 
 def answered(them, piece):
-    """Each record is answered before the next one is sent; `piece`: how many bytes go in at a time."""
+    """Records that come in pieces of so many bytes: what is whole is answered before more is sent."""
     until = time.monotonic() + LIMIT
-    sent, seen = b"", b""
+    stream, ends = b"".join(them), list(itertools.accumulate(map(len, them)))
+    whole_output = listed(stream)
+    # where the lines of each record begin, and the last line
+    lines = [m.start() for m in re.finditer(rb"^(?=\d|end)", whole_output, re.M)]
+    seen = b""
     run = subprocess.Popen(RUN, stdin=subprocess.PIPE, stdout=subprocess.PIPE, bufsize=0)
     try:
-        for one in [b""] + them:
-            for k in range(0, len(one), piece):
-                run.stdin.write(one[k:k + piece])
-                time.sleep(0.001)  # so that the pieces come apart
-            sent += one
-            meant = listed(sent)
-            meant = meant[:meant.rindex(b"end ")]
+        for start in range(-piece, len(stream), piece):
+            run.stdin.write(stream[max(start, 0):start + piece])
+            sent = min(start + piece, len(stream))
+            meant = whole_output[:lines[bisect.bisect_right(ends, sent)]]
             seen += heard(run.stdout, len(meant) - len(seen), until)
             if seen != meant:
-                failed("a record is not answered as it comes", sent, meant, seen)
+                failed("a record is not answered as it comes", stream[:sent], meant, seen)
         run.stdin.close()
         seen += heard(run.stdout, 100, until)
-        if seen != listed(sent) or run.wait(LIMIT):
-            failed("from a slow pipe", sent, listed(sent), seen)
+        if seen != whole_output or run.wait(LIMIT):
+            failed("from a slow pipe", stream, whole_output, seen)
     finally:
         run.kill()
         run.wait()
@@ -469,14 +531,26 @@ def main():
             if wrong:
                 pool.shutdown(wait=False, cancel_futures=True)
                 failed(*wrong)
-    left_unread(GOOD + BLANK_EIT, len(GOOD + BLANK_EIT))
-    left_unread(GOOD + b"\xa5\x5b" + GOOD[2:] + GOOD * 1000, 2 * len(GOOD))
-    left_unread(b"\0" + GOOD * 1000, len(GOOD) + 1)
-    answered([GOOD, BLANK_EIT, record(b"\0\0\0"), longest_record, GOOD], 4096)
-    answered([GOOD, record(b"\0\0\0"), BLANK_EIT], 1)
+    left_unread(GOOD + b"\xa5\x5b" + GOOD[2:] + GOOD * 5000)
+    left_unread(b"\0" + GOOD * 5000)
+    slow = [GOOD, record(b"\0\0\0"), BLANK_EIT, GOOD]
+    sizes = range(1, len(GOOD) + 20)
+    with concurrent.futures.ThreadPoolExecutor(os.cpu_count()) as pool:
+        list(pool.map(lambda size: answered(slow, size), sizes))
+    for size in (1000, 4096, 5000):
+        answered([GOOD, BLANK_EIT, record(b"\0\0\0"), longest_record, GOOD] * 20, size)
+    unreadable(os.open("/", os.O_RDONLY), b"lister: cannot read the input: Is a directory\n")
+    unreadable(os.open("/dev/null", os.O_WRONLY), b"lister: cannot read the input: Bad file descriptor\n")
+    unreadable(None, b"lister: cannot read the input: Bad file descriptor\n", preexec_fn=lambda: os.close(0))
+    lines = ("guide lister\n" + GOOD_LINES[0] % 0 + "\n" + GOOD_LINES[1] + "\n").encode()
+    broken_off(GOOD, lines, b"1 bad record\nend 1\n")
+    broken_off(GOOD + GOOD[:20], lines, b"1 bad record\nend 1\n")
+    unwritable(no_reader(), -signal.SIGPIPE)
+    unwritable(no_reader(), 0, restore_signals=False)
+    unwritable(os.open("/dev/full", os.O_WRONLY), 0)
     sorts = dict.fromkeys(sort for sort, _, _ in inputs)
-    print("%d inputs of %d sorts, %d bytes; 5 more from a file and from a slow pipe"
-          % (len(inputs), len(sorts), sum(len(data) for _, data, _ in inputs)))
+    print("%d inputs of %d sorts, %d bytes; 2 more from files, %d from slow pipes, 5 that cannot be read, 3 outputs that take no more"
+          % (len(inputs), len(sorts), sum(len(data) for _, data, _ in inputs), len(sizes) + 3))
 
 
 main()

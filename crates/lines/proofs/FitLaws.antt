@@ -1,8 +1,7 @@
--- What is printed for any record fits the lister's output of 262,144 bytes, so nothing is ever left out: the line of an event has at
--- most 48 bytes for each byte of the event (8 units a byte of its title, 6 bytes a unit), and all else is short.
+-- What is printed for any record fits an output of 262,144 bytes: the line of an event has at most 48 bytes for each byte of the event
+-- (8 units a byte of its title, 6 bytes a unit), and all else is short.
 use Prim.Native.Nat.{ℕ, zero, suc, _+_, _*_, _^_, _≤_, _<_}
 use mathlib.Core.Path.{_≡_, refl, sym, ap}
-use mathlib.Core.Bool.{Bool, true, false}
 use mathlib.Core.List.{List, _++_}
 use native.Mathlib.Numerals.{sub-one}
 use native.Mathlib.Omega.{arith}
@@ -30,13 +29,12 @@ use Rattle.eit.specs.Format.{eventHead}
 use Rattle.eit.specs.Fields.{countAt, firstAt, titlePart, titleAt, eventAt, eventEnd}
 use Rattle.eit.specs.Inner.{Events}
 use Rattle.eit.proofs.EventsLaws.{events-step}
-use Rattle.record.specs.Records.{whole, pidIn, lengthIn, sectionIn}
+use Rattle.record.specs.Records.{pidIn, lengthIn, sectionIn}
 use Rattle.shown.specs.Ascii.{ascii, decimal, field}
 use Rattle.shown.specs.Titles.{titleShown}
 use Rattle.lines.specs.Lines.{kindWord, keyShown, editionShown, timesShown, eventLine, eventLines, eventsShown}
 use Rattle.lines.specs.Lines.{restShown, refusalShown, outcomeShown, sectionShown}
-use Rattle.lines.specs.Records.{lastLine, Printed, byWhole, printed}
-use Rattle.shown.specs.Output.{Put}
+use Rattle.lines.specs.Records.{lastLine, recordLines, badLines}
 use Rattle.shown.proofs.BothLaws.{lt-either, eq-either}
 use Rattle.shown.proofs.FewLaws.{number-few, field-few, title-few}
 use Rattle.lines.proofs.EventLaws.{section-events}
@@ -220,33 +218,24 @@ module _ (s : List ℕ) (z : Bytes s) where
       (omega (arith, refusal-few 15 (omega arith))) (outcome-few pid p (sectionBy kindOf s) refl (section-told s z)) 8191 pid
 
 -- ---- a record
-last-few : (n : ℕ) → n < 2 ^ 64 → length (lastLine n) ≤ 25
+pub last-few : (n : ℕ) → n < 2 ^ 64 → length (lastLine n) ≤ 25
 unfolding lastLine
 last-few n h = omega (arith, length-append (field (ascii "end ") n) (ascii "\n"), field-few (ascii "end ") n h)
 
-module _ (n : ℕ) (r : List ℕ) (z : Bytes r) (h : n < 2 ^ 64) where
-  -- a section has at most 4,098 bytes
-  whole-few : (t : Bool) → length (byWhole n r t .bytes) ≤ 262144
-  unfolding byWhole
-  whole-few true =
-      let size = 3 + lengthIn r in
-      let s = sectionIn r in
-      omega (
-        arith,
-        length-append (decimal n) (sectionShown (pidIn r) s),
-        number-few n h,
-        length-take size (drop 4 r),
-        section-few s (part-bytes r size 4 z) (pidIn r) (word-few r z 2),
-      )
-  whole-few false =
-      omega (arith, length-append (decimal n) (ascii " bad record\n" ++ lastLine n), number-few n h, last-few n h)
+pub bad-few : (n : ℕ) → n < 2 ^ 64 → length (badLines n) ≤ 57
+unfolding badLines
+bad-few n h = omega (arith, length-append (decimal n) (ascii " bad record\n" ++ lastLine n), number-few n h, last-few n h)
 
-  pub lines-fit : length (printed n r .bytes) ≤ 262144
-  unfolding printed
-  lines-fit =
-      eq-either (λ (x : Printed). length (x .bytes) ≤ 262144) (record { bytes = lastLine n; more = false }) (byWhole n r (whole r))
-      (omega (arith, last-few n h)) (whole-few (whole r)) (length r) 0
-
-  -- so an output of that size is told all of them
-  pub none-left-out : {l e : List ℕ} {m : ℕ} → 262144 ≤ length l → Put (printed n r .bytes) l 0 m e → m ≡ length (printed n r .bytes)
-  none-left-out {l} {e} {m} g p = omega (arith, p .next, lines-fit, g)
+-- a section has at most 4,098 bytes
+pub record-few : (n : ℕ) (r : List ℕ) → Bytes r → n < 2 ^ 64 → length (recordLines n r) ≤ 262144
+unfolding recordLines
+record-few n r z h =
+    let size = 3 + lengthIn r in
+    let s = sectionIn r in
+    omega (
+      arith,
+      length-append (decimal n) (sectionShown (pidIn r) s),
+      number-few n h,
+      length-take size (drop 4 r),
+      section-few s (part-bytes r size 4 z) (pidIn r) (word-few r z 2),
+    )

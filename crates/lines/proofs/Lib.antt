@@ -1,3 +1,3 @@
 pub mod EventLaws
-pub mod RecordLaws
+pub mod SectionLaws
 pub mod FitLaws

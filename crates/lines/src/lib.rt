@@ -3,6 +3,7 @@ mod event;
 mod records;
 mod sections;
 
-pub use records::Listed;
-pub use records::answer;
 pub use records::begin;
+pub use records::put_bad;
+pub use records::put_last;
+pub use records::put_record;

@@ -1,4 +1,5 @@
 -- `put_bad` meets its contract.
+use Rattle.lines.specs.Records.{badLines}
 use Rattle.shown.proofs.PutLaws.{put-then}
 use borrow.Author.Needs.{needs}
 use Rattle.lines.proofs.records.put_bad.Statement.{statement}
@@ -20,6 +21,7 @@ same-length : tie.Need-same-length
 same-length c = search needs
 
 returns : tie.Need-returns
+unfolding badLines
 returns c =
     let d = c .before .before .before .before .before .before in
     put-then (d .before .before .before .before .before .put-number .ensures) (put-then (d .put-all .ensures) (c .before .before .put-last .ensures))

@@ -1,4 +1,5 @@
 -- `put_record` meets its contract.
+use Rattle.lines.specs.Records.{recordLines}
 use Rattle.shown.proofs.PutLaws.{put-then}
 use borrow.Author.Needs.{needs}
 use Rattle.lines.proofs.records.put_record.Statement.{statement}
@@ -20,6 +21,7 @@ same-length : tie.Need-same-length
 same-length c = search needs
 
 returns : tie.Need-returns
+unfolding recordLines
 returns c =
     let d = c .before .before .before .before .before in
     let p = c .before .before .put-section .ensures in

@@ -3,7 +3,7 @@ use mathlib.Core.Path.{sym, ap, _∙_}
 use native.Mathlib.Omega.{arith}
 use Rattle.section.specs.Headers.{headOutcome}
 use Rattle.lines.specs.Lines.{outcomeShown}
-use Rattle.lines.proofs.RecordLaws.{no-pid, a-pid}
+use Rattle.lines.proofs.SectionLaws.{no-pid, a-pid}
 use borrow.Author.Needs.{needs}
 use Rattle.lines.proofs.sections.put_section.Statement.{statement}
 use Rattle.lines.proofs.sections.put_section.Tie as tie

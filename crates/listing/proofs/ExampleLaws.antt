@@ -1,0 +1,32 @@
+-- The examples of SCOPE 8.2, computed.
+use mathlib.Core.Path.{refl}
+use Rattle.checksum.specs.Register.{registerFrom, bitsIn, bitIn, poly}
+use Rattle.logic.specs.Choices.{ifLt, ifEq}
+use Rattle.kind.specs.Kinds.{kindOf}
+use Rattle.refusal.specs.Outcomes.{after}
+use Rattle.bytes_at.specs.Walks.{skipTo, bitsTo, fieldsTo, then, many, ends}
+use Rattle.bytes_at.specs.Bits.{bitAt, bitsAt}
+use Rattle.format.specs.Lawful.{unto}
+use Rattle.strings.specs.Places.{textAt, textEnd}
+use Rattle.strings.specs.Strings.{segment, string, structure, text, sizedText}
+use Rattle.descriptor.specs.Descriptors.{content, descriptor, descriptors, list12}
+use Rattle.descriptor.specs.Places.{listAt, listEnd}
+use Rattle.text.specs.Segments.{wayOf, pairs, utf16Units, unitsBy, segmentUnits}
+use Rattle.text.specs.Strings.{standing, stringCount, stringAt, joined, joinedUnits, stringUnits}
+use Rattle.eit.specs.Format.{event, events, eit}
+use Rattle.eit.specs.Fields.{countAt, firstAt, titlePart, titleAt, descriptorsAt, eventAt, eventEnd}
+use Rattle.eit.specs.Titles.{titleOf}
+use Rattle.section.specs.Bodies.{bodyOf}
+use Rattle.section.specs.Headers.{headerBy, ofKind, lengthTests, checksumTest, numberTests}
+use Rattle.section.specs.Sections.{sectionBy, verdictBy, withBody, bodyTest}
+use Rattle.record.specs.Records.{whole}
+use Rattle.shown.specs.Ascii.{decimalBy, decimal, field}
+use Rattle.shown.specs.Titles.{plain, shown, allShown, textShown, titleShown}
+use Rattle.lines.specs.Lines.{kindWord, keyShown, editionShown, timesShown, eventLine, eventLines, eventsShown, restShown, outcomeShown, sectionShown}
+use Rattle.lines.specs.Records.{lastLine, recordLines}
+use Rattle.listing.specs.Listing.{stopLines, linesFrom, listing}
+use Rattle.listing.specs.Examples.{Examples}
+
+pub examples : Examples
+unfolding headerBy ofKind lengthTests checksumTest numberTests ifLt ifEq kindOf sectionBy verdictBy withBody bodyTest bodyOf then many ends skipTo bitsTo fieldsTo unto segment string structure text sizedText content descriptor descriptors list12 eit events event after bitAt bitsAt textAt textEnd listAt listEnd titlePart titleAt titleOf descriptorsAt eventAt eventEnd wayOf pairs utf16Units unitsBy segmentUnits standing stringCount stringAt joined joinedUnits stringUnits whole decimalBy decimal field plain shown allShown textShown titleShown kindWord keyShown editionShown timesShown eventLine eventLines eventsShown restShown outcomeShown sectionShown lastLine recordLines stopLines linesFrom listing registerFrom bitsIn bitIn poly
+examples = record { both = refl; nothing = refl }

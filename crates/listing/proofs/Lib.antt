@@ -1,0 +1,6 @@
+pub mod StepLaws
+pub mod FrontLaws
+pub mod RunLaws
+pub mod NextLaws
+pub mod FitLaws
+pub mod ExampleLaws
