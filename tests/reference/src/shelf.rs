@@ -10,7 +10,6 @@ pub const MOST_PLACES: usize = 64;
 pub const MOST_WATCHES: usize = 16;
 pub const LARGEST_PID: u32 = 8191;
 pub const LARGEST_QUOTA: u32 = 64;
-pub const LARGEST_VERSION: u32 = 31;
 
 #[derive(Clone, Copy, Debug, Default, PartialEq, Eq)]
 pub struct Watch {
@@ -72,7 +71,7 @@ impl Watch {
         let key = pid_in_range(self.pid)
             && Kind::of_table_id(self.table_id).is_some()
             && self.extension <= u32::from(u16::MAX);
-        let edition = !self.heard || (self.version <= LARGEST_VERSION && self.last < self.quota);
+        let edition = !self.heard || self.last < self.quota;
         key && quota_in_range(self.quota) && edition
     }
 }
@@ -437,7 +436,6 @@ mod tests {
             ("table_id", |s| s.watches[1].table_id = 0xC9),
             ("table_id above a byte", |s| s.watches[1].table_id = 0x1CB),
             ("extension", |s| s.watches[1].extension = 65536),
-            ("version", |s| s.watches[0].version = 32),
             ("last not below quota", |s| s.watches[0].last = 2),
             ("number above last", |s| s.places[1].number = 2),
             ("number twice", |s| s.places[1].number = 0),
@@ -463,6 +461,7 @@ mod tests {
             ("record not open", |s| s.watches[2] = Watch { pid: 9999, quota: 99, heard: true, last: 99, version: 99, ..Watch::default() }),
             ("free place", |s| s.places[3] = Place { used: false, watch: 99, number: 99, length: 9999 }),
             ("no edition", |s| s.watches[1].last = 99),
+            ("version", |s| s.watches[0].version = 32),
             ("length 0", |s| s.places[0].length = 0),
             ("kept bytes", |s| s.area[0] = 0),
         ];
