@@ -4,7 +4,7 @@
 set -u -o pipefail
 cd "$(dirname "$0")/.."
 
-for tool in rt python3 gcc tee tail timeout diff; do
+for tool in rt python3 gcc cargo tee tail timeout diff; do
     command -v "$tool" > /dev/null || { echo "FAILED missing tool: $tool"; exit 1; }
 done
 
@@ -41,5 +41,6 @@ compare calls_from_c sh tests/calls/run.sh
 compare readme python3 tests/readme.py
 compare lent_from_c sh tests/lent/run.sh
 compare stack_of_each_call sh bench/stack.sh
+compare second_opinion sh tests/compare/run.sh
 
 tail -n 1 "$said"
