@@ -41,6 +41,7 @@ compare calls_from_c sh tests/calls/run.sh
 compare readme python3 tests/readme.py
 compare lent_from_c sh tests/lent/run.sh
 compare stack_of_each_call sh bench/stack.sh
+compare rust_bindings sh bindings/rust/test.sh
 compare second_opinion sh tests/compare/run.sh
 
 tail -n 1 "$said"
