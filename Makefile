@@ -3,8 +3,9 @@
 # make list: builds the lister and lists FILE.
 # make lib: builds target/guide/ARCH/libguide.a, for this machine or for ARCH=x86_64|aarch64.
 # make install PREFIX=.. DESTDIR=..: library, header, pkg-config file, lister and man pages.  make uninstall: takes them away.
+# make compare: compares library and reference for SECONDS.
 # make speed: measures.  make peers: measures beside other libraries.
-.PHONY: test check fmt speed peers list lib install uninstall
+.PHONY: test check fmt compare speed peers list lib install uninstall
 SHELL := /bin/bash
 FILE ?= examples/two_eits.bin
 ARCH ?= $(shell uname -m)
@@ -43,6 +44,9 @@ install: lib
 uninstall:
 	@rm -f $(into)/lib/libguide.a $(into)/lib/pkgconfig/guide.pc $(into)/include/guide.h $(into)/bin/lister \
 		$(into)/share/man/man1/lister.1 $(into)/share/man/man3/guide.3
+
+compare:
+	@sh tests/compare/run.sh $(SECONDS)
 
 speed:
 	@bash bench/checksum.sh

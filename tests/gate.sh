@@ -4,7 +4,7 @@
 set -u -o pipefail
 cd "$(dirname "$0")/.."
 
-for tool in rt python3 gcc tee tail timeout diff; do
+for tool in rt python3 gcc cargo tee tail timeout diff; do
     command -v "$tool" > /dev/null || { echo "FAILED missing tool: $tool"; exit 1; }
 done
 
@@ -43,5 +43,7 @@ compare readme python3 tests/readme.py
 compare checksum_tables_there python3 tests/tables_there.py
 compare lent_from_c sh tests/lent/run.sh
 compare stack_of_each_call sh bench/stack.sh
+compare rust_bindings sh bindings/rust/test.sh
+compare second_opinion sh tests/compare/run.sh
 
 tail -n 1 "$said"

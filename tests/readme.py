@@ -1,6 +1,6 @@
 #!/usr/bin/env python3
 """Holds the programs that README.md and guide.h show to what the repository has: the one in Rattle is the crate `first_program`, with its line of crates.txt;
-the one in C compiles, links and prints what it should; the example in guide.h compiles. Run it where the library is built (tools/lib.sh)."""
+the one in Rust is an example of bindings/rust, which its test.sh runs; the one in C compiles, links and prints what it should; the example in guide.h compiles. Run it where the library is built (tools/lib.sh)."""
 import os
 import platform
 import subprocess
@@ -40,6 +40,9 @@ def main():
     readme, source, crates = text_of("README.md"), text_of("crates", "first_program", "src", "main.rt"), text_of("crates.txt")
     if block_with(readme, source.splitlines()[0], "    ") != source:
         failed("the program in Rattle is not that of the crate first_program")
+    rust = text_of("bindings", "rust", "examples", "first.rs")
+    if block_with(readme, rust.splitlines()[0], "    ") != rust:
+        failed("the program in Rust is not bindings/rust/examples/first.rs")
     line = block_with(readme, "first_program: ", "    ").splitlines()[0]
     if line not in crates.splitlines():
         failed("crates.txt has no line '%s'" % line)
@@ -57,7 +60,7 @@ def main():
             ran = subprocess.run([os.path.join(folder, "first")], input=section, capture_output=True)
             if (ran.stdout.decode(), ran.returncode) != (printed, status):
                 failed("the program in C prints %r and ends with %d" % (ran.stdout, ran.returncode))
-    print("README: both programs and the header's example as they should be")
+    print("README: the three programs and the header's example as they should be")
 
 
 main()
