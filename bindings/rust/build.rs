@@ -4,7 +4,11 @@ use std::path::PathBuf;
 use std::process::Command;
 
 fn installed() -> Option<PathBuf> {
-    let said = Command::new("pkg-config").args(["--libs-only-L", "guide"]).output().ok().filter(|said| said.status.success())?;
+    let said = Command::new("pkg-config")
+        .args(["--libs-only-L", "guide"])
+        .output()
+        .ok()
+        .filter(|said| said.status.success())?;
     let words = String::from_utf8(said.stdout).ok()?;
     words.split_whitespace().find_map(|word| word.strip_prefix("-L").map(PathBuf::from))
 }

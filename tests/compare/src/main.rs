@@ -131,7 +131,8 @@ fn main() -> ExitCode {
     let began = Instant::now();
     let mut run = Run { chance: Chance::new(limits.seed), tally: Tally::default(), only: limits.only };
     let over = |tally: &Tally| {
-        limits.calls.is_some_and(|calls| tally.all() >= calls) || limits.seconds.is_some_and(|seconds| began.elapsed() >= Duration::from_secs(seconds))
+        limits.calls.is_some_and(|calls| tally.all() >= calls)
+            || limits.seconds.is_some_and(|seconds| began.elapsed() >= Duration::from_secs(seconds))
     };
     for round in 0u64.. {
         if over(&run.tally) {
