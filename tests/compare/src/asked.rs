@@ -1,7 +1,7 @@
 //! Calls that are lent bytes and tell what stands in them: sections, text fields and descriptor lists. Each is asked of the library and of
 //! the reference, whose answer is put into the numbers that guide.h says.
 
-use crate::case::{hex, smaller_bytes, written, Case, Family, Tally, BEFORE, BEFORE_16, BEHIND};
+use crate::case::{hex, written, Case, Family, Tally, BEFORE, BEFORE_16, BEHIND};
 use crate::chance::Chance;
 use crate::library::*;
 use crate::make;
@@ -367,8 +367,6 @@ impl Call {
 pub struct Asked {
     pub call: Call,
     pub bytes: Vec<u8>,
-    /// Whether the bytes are a section whose length and checksum were set, which is done again where they are made smaller.
-    pub sealed: bool,
 }
 
 impl Case for Asked {
@@ -401,12 +399,7 @@ impl Case for Asked {
     }
 
     fn smaller(&self) -> Box<dyn Iterator<Item = Self> + '_> {
-        Box::new(smaller_bytes(&self.bytes).filter_map(|mut bytes| {
-            if self.sealed {
-                make::reseal(&mut bytes, true);
-            }
-            (bytes != self.bytes).then(|| Asked { bytes, ..self.clone() })
-        }))
+        Box::new(make::smaller(&self.bytes).map(|bytes| Asked { bytes, ..*self }))
     }
 
     fn shown(&self) -> String {

@@ -68,7 +68,7 @@ impl Case for Listed {
 
 pub fn any(chance: &mut Chance, words: &str) -> Listed {
     let records = (0..chance.below(300)).map(|_| {
-        let (mut section, _) = make::received(chance);
+        let mut section = make::received(chance);
         // A frame goes by section_length, so a section of another length would end the run.
         if section.len() < 3 || chance.often(99) {
             section.resize(section.len().max(7), 0);

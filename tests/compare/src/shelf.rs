@@ -209,13 +209,21 @@ impl Case for History {
     fn smaller(&self) -> Box<dyn Iterator<Item = Self> + '_> {
         let n = self.steps.len();
         let sizes = std::iter::successors(Some(n / 2), |&size| Some(size / 2)).take_while(|&size| size > 0);
-        Box::new(sizes.flat_map(move |size| {
+        let fewer = sizes.flat_map(move |size| {
             (0..=n - size).map(move |at| {
                 let mut fewer = self.clone();
                 fewer.steps.drain(at..at + size);
                 fewer
             })
-        }))
+        });
+        let shorter = (0..n).flat_map(move |at| {
+            make::smaller(&self.steps[at].section).map(move |section| {
+                let mut shorter = self.clone();
+                shorter.steps[at].section = section;
+                shorter
+            })
+        });
+        Box::new(fewer.chain(shorter))
     }
 
     fn shown(&self) -> String {

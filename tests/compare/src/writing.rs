@@ -172,7 +172,7 @@ fn ett(chance: &mut Chance) -> Write {
 
 /// A section that was received, to be written again from its own rows and bytes.
 fn again(chance: &mut Chance) -> Option<Write> {
-    let (bytes, _) = make::received(chance);
+    let bytes = make::received(chance);
     let table = tables::eit(&bytes).ok()?;
     let h = table.header;
     let given = [
