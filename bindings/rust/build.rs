@@ -4,9 +4,10 @@ use std::path::PathBuf;
 use std::process::Command;
 
 fn installed() -> Option<PathBuf> {
-    let said = Command::new("pkg-config").args(["--libs-only-L", "guide"]).output().ok().filter(|said| said.status.success())?;
-    let words = String::from_utf8(said.stdout).ok()?;
-    words.split_whitespace().find_map(|word| word.strip_prefix("-L").map(PathBuf::from))
+    // Not --libs-only-L, which leaves out the system's own folders.
+    let asked = Command::new("pkg-config").args(["--variable=prefix", "guide"]).output().ok()?;
+    let prefix = String::from_utf8(asked.stdout).ok().filter(|_| asked.status.success())?;
+    Some(PathBuf::from(prefix.trim()).join("lib"))
 }
 
 fn built() -> PathBuf {

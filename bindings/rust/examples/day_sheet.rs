@@ -52,7 +52,10 @@ impl Sheet {
         for section in self.sections(self.first[1])? {
             for channel in Tvct::read(section).ok()?.channels() {
                 let key = pid.map(|pid| Key { pid, kind: Kind::Eit, extension: channel.source_id });
-                all.push(Programmes { channel: format!("{}.{} {}", channel.major, channel.minor, channel.name()), key });
+                all.push(Programmes {
+                    channel: format!("{}.{} {}", channel.major, channel.minor, channel.name()),
+                    key,
+                });
             }
         }
         Some(all)
@@ -86,7 +89,13 @@ impl Sheet {
             println!("  no programmes");
         }
         for event in tables.iter().flat_map(Eit::events) {
-            println!("  {} for {} s: {}{}", event.start_time, event.length, title(event.title), self.ratings(&event.descriptors));
+            println!(
+                "  {} for {} s: {}{}",
+                event.start_time,
+                event.length,
+                title(event.title),
+                self.ratings(&event.descriptors)
+            );
         }
     }
 }

@@ -165,7 +165,14 @@ extern "C" {
         room: usize,
         told: *mut TitlesTold,
     ) -> u32;
-    fn guide_field_text(field: *const u8, n: usize, string: u32, units: *mut u16, room: usize, told: *mut UnitsTold) -> u32;
+    fn guide_field_text(
+        field: *const u8,
+        n: usize,
+        string: u32,
+        units: *mut u16,
+        room: usize,
+        told: *mut UnitsTold,
+    ) -> u32;
     fn guide_write_eit(
         given: *const Given,
         rows: *const EventRow,
@@ -176,7 +183,14 @@ extern "C" {
         room: usize,
         length: *mut u32,
     ) -> u32;
-    fn guide_write_ett(given: *const Given, text: *const u8, n: usize, out: *mut u8, room: usize, length: *mut u32) -> u32;
+    fn guide_write_ett(
+        given: *const Given,
+        text: *const u8,
+        n: usize,
+        out: *mut u8,
+        room: usize,
+        length: *mut u32,
+    ) -> u32;
 }
 
 /// All events of an EIT, and the units of their titles one after the other.
@@ -200,7 +214,8 @@ pub fn field_text(field: &[u8], string: u32) -> Result<Vec<u16>, Refusal> {
     let mut units = vec![0; field_units(field, string)?.units as usize];
     let mut told = UnitsTold::default();
     // SAFETY: field and units are lent with their lengths.
-    let answer = unsafe { guide_field_text(field.as_ptr(), field.len(), string, units.as_mut_ptr(), units.len(), &mut told) };
+    let answer =
+        unsafe { guide_field_text(field.as_ptr(), field.len(), string, units.as_mut_ptr(), units.len(), &mut told) };
     units.truncate(told.units as usize);
     answered(answer, units)
 }
@@ -224,7 +239,9 @@ pub fn write_eit(given: &Given, rows: &[EventRow], bytes: &[u8]) -> Result<Vec<u
 
 pub fn write_ett(given: &Given, text: &[u8]) -> Result<Vec<u8>, Refusal> {
     // SAFETY: text and buffer are lent with their lengths; the buffer is `written`'s own.
-    written(|out, length| unsafe { guide_write_ett(given, text.as_ptr(), text.len(), out.as_mut_ptr(), out.len(), length) })
+    written(|out, length| unsafe {
+        guide_write_ett(given, text.as_ptr(), text.len(), out.as_mut_ptr(), out.len(), length)
+    })
 }
 
 /// The memory of a shelf.
@@ -245,8 +262,20 @@ macro_rules! shelf_calls {
 
 shelf_calls! { lent_open lent_close lent_status lent_fetch lent_deliver }
 
-type ShelfCall =
-    unsafe extern "C" fn(*mut Watch, usize, *mut Place, usize, *mut u8, usize, *const u8, usize, *const Question, usize, *mut Reply, usize) -> u32;
+type ShelfCall = unsafe extern "C" fn(
+    *mut Watch,
+    usize,
+    *mut Place,
+    usize,
+    *mut u8,
+    usize,
+    *const u8,
+    usize,
+    *const Question,
+    usize,
+    *mut Reply,
+    usize,
+) -> u32;
 
 impl Lent {
     fn change(&mut self, call: ShelfCall, question: Question, section: &[u8]) -> Result<(), Refusal> {
@@ -257,7 +286,20 @@ impl Lent {
             let (watches, places, area) = (&mut self.watches[..], &mut self.places[..], &mut self.area[..]);
             let (records, numbers, size) = (watches.len(), numbers_in(places), area.len());
             let (watches, places, area) = (watches.as_mut_ptr(), places.as_mut_ptr(), area.as_mut_ptr());
-            call(watches, records, places, numbers, area, size, section.as_ptr(), section.len(), &question, 4, &mut reply, 3)
+            call(
+                watches,
+                records,
+                places,
+                numbers,
+                area,
+                size,
+                section.as_ptr(),
+                section.len(),
+                &question,
+                4,
+                &mut reply,
+                3,
+            )
         };
         answered(answer, ())
     }
@@ -270,7 +312,20 @@ impl Lent {
             let (watches, places, area) = (self.watches.as_ptr(), self.places.as_ptr(), self.area.as_ptr());
             let (records, numbers, size) = (self.watches.len(), numbers_in(&self.places), self.area.len());
             let section = [].as_ptr();
-            call(watches.cast_mut(), records, places.cast_mut(), numbers, area.cast_mut(), size, section, 0, &question, 4, &mut reply, 3)
+            call(
+                watches.cast_mut(),
+                records,
+                places.cast_mut(),
+                numbers,
+                area.cast_mut(),
+                size,
+                section,
+                0,
+                &question,
+                4,
+                &mut reply,
+                3,
+            )
         };
         answered(answer, reply)
     }
@@ -320,12 +375,16 @@ mod header {
             lines += &format!("printf(\"%zu\\n\", offsetof({name}, {field}));\n");
         }
         std::fs::write(&source, lines + "return 0;\n}\n").unwrap();
-        let compiled = Command::new("gcc").arg("-I").arg(include()).arg("-o").args([&program, &source]).status().unwrap();
+        let compiled =
+            Command::new("gcc").arg("-I").arg(include()).arg("-o").args([&program, &source]).status().unwrap();
         assert!(compiled.success());
         let said = String::from_utf8(Command::new(&program).output().unwrap().stdout).unwrap();
         std::fs::remove_dir_all(&folder).unwrap();
         let here = SIZES.iter().map(|&(_, size)| size).chain(OFFSETS.iter().map(|&(_, _, at)| at));
-        assert_eq!(said.lines().map(|line| line.parse().unwrap()).collect::<Vec<usize>>(), here.collect::<Vec<usize>>());
+        assert_eq!(
+            said.lines().map(|line| line.parse().unwrap()).collect::<Vec<usize>>(),
+            here.collect::<Vec<usize>>()
+        );
     }
 
     #[test]
@@ -333,11 +392,18 @@ mod header {
         let header = std::fs::read_to_string(include().join("guide.h")).unwrap();
         for refusal in Refusal::ALL {
             let words = format!("{refusal:?}");
-            let name: String = words.chars().enumerate().flat_map(|(at, letter)| {
-                (at > 0 && letter.is_uppercase()).then_some('_').into_iter().chain(letter.to_uppercase())
-            }).collect();
+            let name: String = words
+                .chars()
+                .enumerate()
+                .flat_map(|(at, letter)| {
+                    (at > 0 && letter.is_uppercase()).then_some('_').into_iter().chain(letter.to_uppercase())
+                })
+                .collect();
             let line = header.lines().find(|line| line.contains(&format!("GUIDE_{name} = {},", refusal.number())));
-            assert!(line.is_some_and(|line| line.ends_with(&format!("/* {} */", refusal.sentence()))), "{name}: {line:?}");
+            assert!(
+                line.is_some_and(|line| line.ends_with(&format!("/* {} */", refusal.sentence()))),
+                "{name}: {line:?}"
+            );
             assert_eq!(Refusal::of(refusal.number()), Some(refusal));
         }
         assert_eq!((Refusal::of(0), Refusal::of(25)), (None, None));

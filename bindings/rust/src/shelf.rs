@@ -20,7 +20,12 @@ pub struct Key {
 
 impl Key {
     fn asking(self, amount: u32) -> ffi::Question {
-        ffi::Question { pid: self.pid.into(), table_id: self.kind.table_id().into(), extension: self.extension.into(), amount }
+        ffi::Question {
+            pid: self.pid.into(),
+            table_id: self.kind.table_id().into(),
+            extension: self.extension.into(),
+            amount,
+        }
     }
 }
 

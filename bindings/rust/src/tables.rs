@@ -302,8 +302,12 @@ impl<'a> Eit<'a> {
         match row.sort {
             ffi::NO_TITLE => Title::None,
             ffi::NO_STRINGS => Title::NoStrings,
-            ffi::TEXT => Title::Text(Text::decoded(field, Ok(&self.units[row.first_unit as usize..][..row.units as usize]))),
-            refusal => Title::Text(Text::decoded(field, Err(Refusal::of(refusal).expect("guide.h: a sort, or 10 or 11")))),
+            ffi::TEXT => {
+                Title::Text(Text::decoded(field, Ok(&self.units[row.first_unit as usize..][..row.units as usize])))
+            }
+            refusal => {
+                Title::Text(Text::decoded(field, Err(Refusal::of(refusal).expect("guide.h: a sort, or 10 or 11"))))
+            }
         }
     }
 }

@@ -1,7 +1,7 @@
 //! Calls that are lent bytes and tell what stands in them: sections, text fields and descriptor lists. Each is asked of the library and of
 //! the reference, whose answer is put into the numbers that guide.h says.
 
-use crate::case::{hex, smaller_bytes, written, Case, Family, Tally, BEFORE, BEFORE_16, BEHIND};
+use crate::case::{hex, written, Case, Family, Tally, BEFORE, BEFORE_16, BEHIND};
 use crate::chance::Chance;
 use crate::library::*;
 use crate::make;
@@ -194,8 +194,11 @@ impl Call {
         use Call::*;
         match self {
             Judge | Fault => Family::Judging,
-            Mgt | MgtTable(_) | Tvct | TvctChannel(_) | Rrt | RrtDimension(_) | RrtValue(..) | Eit | EitEvent(_) | Ett => Family::Tables,
-            MgtTables { .. } | TvctChannels { .. } | RrtDimensions { .. } | RrtValues { .. } | EitEvents { .. } => Family::Rows,
+            Mgt | MgtTable(_) | Tvct | TvctChannel(_) | Rrt | RrtDimension(_) | RrtValue(..) | Eit | EitEvent(_)
+            | Ett => Family::Tables,
+            MgtTables { .. } | TvctChannels { .. } | RrtDimensions { .. } | RrtValues { .. } | EitEvents { .. } => {
+                Family::Rows
+            }
             Titles { .. } => Family::Titles,
             Strings(_) | Heading(_) | Units(_) | Text(..) => Family::Texts,
             FieldStrings | FieldHeading(_) | FieldUnits(_) | FieldText(..) => Family::Fields,
@@ -208,7 +211,11 @@ impl Call {
     fn room(self) -> (usize, usize) {
         use Call::*;
         match self {
-            MgtTables { numbers } | TvctChannels { numbers } | RrtDimensions { numbers } | RrtValues { numbers } | EitEvents { numbers } => (numbers, 0),
+            MgtTables { numbers }
+            | TvctChannels { numbers }
+            | RrtDimensions { numbers }
+            | RrtValues { numbers }
+            | EitEvents { numbers } => (numbers, 0),
             Titles { numbers, room } => (numbers, room),
             Text(_, room) | FieldText(_, room) => (0, room),
             _ => (0, 0),
@@ -220,7 +227,14 @@ impl Call {
         Ok(match self {
             Judge => {
                 let h = section::judge(bytes, None)?;
-                numbers(vec![h.kind.table_id().into(), h.extension.into(), h.version.into(), h.current.into(), h.number.into(), h.last.into()])
+                numbers(vec![
+                    h.kind.table_id().into(),
+                    h.extension.into(),
+                    h.version.into(),
+                    h.current.into(),
+                    h.number.into(),
+                    h.last.into(),
+                ])
             }
             Fault => numbers(vec![section::fault(bytes)?.map_or(NO_VALUE, |at| at as u32)]),
             Mgt => {
@@ -230,13 +244,18 @@ impl Call {
             MgtTable(i) => numbers(table_row(&tables::mgt_table(bytes, i as usize)?)),
             Tvct => {
                 let table = tables::tvct(bytes)?;
-                numbers([&[table.header.extension.into(), table.channels.len() as u32][..], &part(table.descriptors)].concat())
+                numbers(
+                    [&[table.header.extension.into(), table.channels.len() as u32][..], &part(table.descriptors)]
+                        .concat(),
+                )
             }
             TvctChannel(i) => numbers(channel_row(&tables::tvct_channel(bytes, i as usize)?)),
             Rrt => {
                 let table = tables::rrt(bytes)?;
                 let own = [table.header.extension.into(), table.region.into()];
-                numbers([&own[..], &part(table.name), &[table.dimensions.len() as u32], &part(table.descriptors)].concat())
+                numbers(
+                    [&own[..], &part(table.name), &[table.dimensions.len() as u32], &part(table.descriptors)].concat(),
+                )
             }
             RrtDimension(i) => numbers(dimension_row(&tables::rrt_dimension(bytes, i as usize)?)),
             RrtValue(i, j) => numbers(value_row(&tables::rrt_value(bytes, i as usize, j as usize)?)),
@@ -278,7 +297,9 @@ impl Call {
             Titles { numbers, room } => titles(bytes, numbers, room)?,
             Strings(which) => numbers(vec![text::section_number_of_strings(bytes, place(which)?)? as u32]),
             Heading(which) => heading(text::section_heading(bytes, place(which)?, which[3] as usize)?),
-            Units(which) => Told { units: Vec::new(), ..units(text::section_units(bytes, place(which)?, which[3] as usize)?) },
+            Units(which) => {
+                Told { units: Vec::new(), ..units(text::section_units(bytes, place(which)?, which[3] as usize)?) }
+            }
             Text(which, room) => units(text::section_units_within(bytes, place(which)?, which[3] as usize, room)?),
             FieldStrings => numbers(vec![text::number_of_strings(bytes)? as u32]),
             FieldHeading(string) => heading(text::heading(bytes, string as usize)?),
@@ -298,7 +319,8 @@ impl Call {
 
     fn asked(self, bytes: &[u8], told: &mut [u32], rows: &mut [u32], units: &mut [u16]) -> u32 {
         use Call::*;
-        let (s, n, told, rows, units) = (bytes.as_ptr(), bytes.len(), told.as_mut_ptr(), rows.as_mut_ptr(), units.as_mut_ptr());
+        let (s, n, told, rows, units) =
+            (bytes.as_ptr(), bytes.len(), told.as_mut_ptr(), rows.as_mut_ptr(), units.as_mut_ptr());
         // SAFETY: every pointer is good for the length that is lent with it: `told` for more numbers than any struct has, `rows` and
         // `units` for the room that `room` says and BEHIND more. Nothing overlaps.
         unsafe {
@@ -345,8 +367,6 @@ impl Call {
 pub struct Asked {
     pub call: Call,
     pub bytes: Vec<u8>,
-    /// Whether the bytes are a section whose length and checksum were set, which is done again where they are made smaller.
-    pub sealed: bool,
 }
 
 impl Case for Asked {
@@ -366,7 +386,9 @@ impl Case for Asked {
             Err(refusal) => (refusal.into(), Told::default()),
         };
         tally.add(self, number);
-        let kept = written(&told, &memory.numbers, BEFORE) && written(&rows, &memory.rows, BEFORE) && written(&units, &memory.units, BEFORE_16);
+        let kept = written(&told, &memory.numbers, BEFORE)
+            && written(&rows, &memory.rows, BEFORE)
+            && written(&units, &memory.units, BEFORE_16);
         if refusal == number && kept {
             return None;
         }
@@ -377,12 +399,7 @@ impl Case for Asked {
     }
 
     fn smaller(&self) -> Box<dyn Iterator<Item = Self> + '_> {
-        Box::new(smaller_bytes(&self.bytes).filter_map(|mut bytes| {
-            if self.sealed {
-                make::reseal(&mut bytes, true);
-            }
-            (bytes != self.bytes).then(|| Asked { bytes, ..self.clone() })
-        }))
+        Box::new(make::smaller(&self.bytes).map(|bytes| Asked { bytes, ..*self }))
     }
 
     fn shown(&self) -> String {
@@ -436,7 +453,9 @@ pub fn of_section(chance: &mut Chance, bytes: &[u8]) -> Vec<Call> {
     let counts = match &body {
         Some(Body::Mgt(table)) => (table.tables.len(), 0),
         Some(Body::Tvct(table)) => (table.channels.len(), 0),
-        Some(Body::Rrt(table)) => (table.dimensions.len(), table.dimensions.iter().map(|dimension| dimension.values.len()).sum()),
+        Some(Body::Rrt(table)) => {
+            (table.dimensions.len(), table.dimensions.iter().map(|dimension| dimension.values.len()).sum())
+        }
         Some(Body::Eit(table)) => (table.events.len(), 0),
         _ => (1, 0),
     };
@@ -453,7 +472,8 @@ pub fn of_section(chance: &mut Chance, bytes: &[u8]) -> Vec<Call> {
         ]),
         Kind::Eit => {
             let exact = titles(bytes, usize::MAX, usize::MAX).map_or(4, |told| told.units.len());
-            let room = if chance.often(30) { (8 * bytes.len()).saturating_sub(chance.below(2)) } else { chance.room(exact) };
+            let room =
+                if chance.often(30) { (8 * bytes.len()).saturating_sub(chance.below(2)) } else { chance.room(exact) };
             calls.extend([
                 Eit,
                 EitEvent(entry),
@@ -484,5 +504,9 @@ pub fn of_field(chance: &mut Chance, bytes: &[u8]) -> Vec<Call> {
 pub fn of_list(chance: &mut Chance) -> Vec<Call> {
     let region = region(chance);
     let dimension = self::region(chance);
-    vec![Call::ListRating { region, dimension }, Call::ListDescriptor { k: chance.entry(3) }, Call::ListAdvisory { region }]
+    vec![
+        Call::ListRating { region, dimension },
+        Call::ListDescriptor { k: chance.entry(3) },
+        Call::ListAdvisory { region },
+    ]
 }

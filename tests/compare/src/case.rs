@@ -54,8 +54,16 @@ impl Tally {
     /// A family's calls, and by which numbers they were answered.
     pub fn line(&self, family: Family) -> String {
         let answers = &self.0[family as usize];
-        let refused = (1..answers.len()).filter(|&number| answers[number] > 0).map(|number| format!(" {number}:{}", answers[number]));
-        format!("{:>9} {}, done {}, refused{}", answers.iter().sum::<u64>(), family.name(), answers[0], refused.collect::<String>())
+        let refused = (1..answers.len())
+            .filter(|&number| answers[number] > 0)
+            .map(|number| format!(" {number}:{}", answers[number]));
+        format!(
+            "{:>9} {}, done {}, refused{}",
+            answers.iter().sum::<u64>(),
+            family.name(),
+            answers[0],
+            refused.collect::<String>()
+        )
     }
 }
 
@@ -81,13 +89,19 @@ pub fn report<C: Case>(case: &C) -> String {
             None => break,
         }
     }
-    format!("{}: {}\n{}", case.family().name(), smallest.shown(), smallest.difference(&mut uncounted).unwrap_or_default())
+    format!(
+        "{}: {}\n{}",
+        case.family().name(),
+        smallest.shown(),
+        smallest.difference(&mut uncounted).unwrap_or_default()
+    )
 }
 
 /// Bytes with a chunk taken out, large chunks first, and then with a chunk set to 0.
 pub fn smaller_bytes(bytes: &[u8]) -> impl Iterator<Item = Vec<u8>> + '_ {
     let sizes = || std::iter::successors(Some(bytes.len()), |&size| Some(size / 2)).take_while(|&size| size > 0);
-    let chunks = move || sizes().flat_map(move |size| (0..=bytes.len() - size).step_by(size).map(move |at| at..at + size));
+    let chunks =
+        move || sizes().flat_map(move |size| (0..=bytes.len() - size).step_by(size).map(move |at| at..at + size));
     let cut = chunks().map(|chunk| [&bytes[..chunk.start], &bytes[chunk.end..]].concat());
     let blank = chunks().filter(|chunk| bytes[chunk.clone()].iter().any(|&byte| byte != 0)).map(|chunk| {
         let mut blank = bytes.to_vec();
@@ -110,5 +124,7 @@ pub const BEHIND: usize = 8;
 
 /// Whether lent memory begins with what was to be written and is else as it was before.
 pub fn written<T: PartialEq + Copy>(memory: &[T], expected: &[T], before: T) -> bool {
-    memory.len() >= expected.len() && memory[..expected.len()] == *expected && memory[expected.len()..].iter().all(|&one| one == before)
+    memory.len() >= expected.len()
+        && memory[..expected.len()] == *expected
+        && memory[expected.len()..].iter().all(|&one| one == before)
 }

@@ -3,7 +3,8 @@
 use crate::chance::Chance;
 use std::sync::OnceLock;
 
-const LISTS: [&str; 2] = [include_str!("../../../data/annex-c-1-codes.txt"), include_str!("../../../data/annex-c-2-codes.txt")];
+const LISTS: [&str; 2] =
+    [include_str!("../../../data/annex-c-1-codes.txt"), include_str!("../../../data/annex-c-2-codes.txt")];
 const END: u8 = 0;
 const ESCAPE: u8 = 27;
 
@@ -73,5 +74,9 @@ pub fn segment(chance: &mut Chance, kind: usize, most: usize) -> Vec<u8> {
         bits.extend((0..7 + chance.below(3)).map(|bit| bit % 3 == 0));
     }
     let filler = chance.byte();
-    bits.chunks(8).map(|chunk| (0..8).fold(0, |byte, at| byte << 1 | chunk.get(at).map_or(filler >> at & 1, |&bit| u8::from(bit)))).collect()
+    bits.chunks(8)
+        .map(|chunk| {
+            (0..8).fold(0, |byte, at| byte << 1 | chunk.get(at).map_or(filler >> at & 1, |&bit| u8::from(bit)))
+        })
+        .collect()
 }

@@ -17,7 +17,12 @@ pub struct Listed {
 fn printed(words: &str, input: &[u8]) -> Vec<u8> {
     let mut words = words.split_whitespace();
     let program = words.next().expect("--lister takes the words that run the lister");
-    let mut lister = Command::new(program).args(words).stdin(Stdio::piped()).stdout(Stdio::piped()).spawn().expect("the lister runs");
+    let mut lister = Command::new(program)
+        .args(words)
+        .stdin(Stdio::piped())
+        .stdout(Stdio::piped())
+        .spawn()
+        .expect("the lister runs");
     let (mut into, mut from) = (lister.stdin.take().unwrap(), lister.stdout.take().unwrap());
     let mut output = Vec::new();
     std::thread::scope(|scope| {
@@ -41,14 +46,18 @@ impl Case for Listed {
         let expected = reference::list(&input);
         tally.add(self, 0);
         let output = printed(&self.words, &input);
-        (output != expected.as_bytes()).then(|| format!("reference:\n{expected}library:\n{}", String::from_utf8_lossy(&output)))
+        (output != expected.as_bytes())
+            .then(|| format!("reference:\n{expected}library:\n{}", String::from_utf8_lossy(&output)))
     }
 
     fn smaller(&self) -> Box<dyn Iterator<Item = Self> + '_> {
         let n = self.records.len();
         let sizes = std::iter::successors(Some(n), |&size| Some(size / 2)).take_while(|&size| size > 0);
-        let fewer = sizes.flat_map(move |size| (0..=n - size).step_by(size).map(move |at| [&self.records[..at], &self.records[at + size..]].concat()));
-        let shorter = (0..if n == 1 { 1 } else { 0 }).flat_map(|at| smaller_bytes(&self.records[at]).map(|bytes| vec![bytes]));
+        let fewer = sizes.flat_map(move |size| {
+            (0..=n - size).step_by(size).map(move |at| [&self.records[..at], &self.records[at + size..]].concat())
+        });
+        let shorter =
+            (0..if n == 1 { 1 } else { 0 }).flat_map(|at| smaller_bytes(&self.records[at]).map(|bytes| vec![bytes]));
         Box::new(fewer.chain(shorter).map(|records| Listed { records, ..self.clone() }))
     }
 
@@ -59,7 +68,7 @@ impl Case for Listed {
 
 pub fn any(chance: &mut Chance, words: &str) -> Listed {
     let records = (0..chance.below(300)).map(|_| {
-        let (mut section, _) = make::received(chance);
+        let mut section = make::received(chance);
         // A frame goes by section_length, so a section of another length would end the run.
         if section.len() < 3 || chance.often(99) {
             section.resize(section.len().max(7), 0);

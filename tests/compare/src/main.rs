@@ -68,8 +68,8 @@ impl Run {
         }
     }
 
-    fn calls(&mut self, calls: Vec<Call>, bytes: &[u8], sealed: bool) -> Result<(), String> {
-        let mut case = Asked { call: Call::Judge, bytes: bytes.to_vec(), sealed };
+    fn calls(&mut self, calls: Vec<Call>, bytes: &[u8]) -> Result<(), String> {
+        let mut case = Asked { call: Call::Judge, bytes: bytes.to_vec() };
         for call in calls {
             case.call = call;
             self.compare(&case)?;
@@ -77,9 +77,9 @@ impl Run {
         Ok(())
     }
 
-    fn section(&mut self, bytes: &[u8], sealed: bool) -> Result<(), String> {
+    fn section(&mut self, bytes: &[u8]) -> Result<(), String> {
         let calls = asked::of_section(&mut self.chance, bytes);
-        self.calls(calls, bytes, sealed)
+        self.calls(calls, bytes)
     }
 
     fn field(&mut self) -> Result<(), String> {
@@ -87,7 +87,7 @@ impl Run {
         let built = make::text(&mut self.chance, most);
         let bytes = make::damaged(&mut self.chance, built);
         let calls = asked::of_field(&mut self.chance, &bytes);
-        self.calls(calls, &bytes, false)
+        self.calls(calls, &bytes)
     }
 
     fn list(&mut self) -> Result<(), String> {
@@ -95,21 +95,21 @@ impl Run {
         let built = make::list(&mut self.chance, most, true);
         let bytes = make::damaged(&mut self.chance, built);
         let calls = asked::of_list(&mut self.chance);
-        self.calls(calls, &bytes, false)
+        self.calls(calls, &bytes)
     }
 
     /// There and back: what was written is read.
     fn written(&mut self) -> Result<(), String> {
         let write = writing::any(&mut self.chance);
         self.compare(&write)?;
-        write.section().map_or(Ok(()), |bytes| self.section(&bytes, true))
+        write.section().map_or(Ok(()), |bytes| self.section(&bytes))
     }
 
     fn round(&mut self) -> Result<(), String> {
         match self.chance.below(20) {
             0..=9 => {
-                let (bytes, sealed) = make::received(&mut self.chance);
-                self.section(&bytes, sealed)
+                let bytes = make::received(&mut self.chance);
+                self.section(&bytes)
             }
             10..=12 => self.field(),
             13..=15 => self.list(),
@@ -131,7 +131,8 @@ fn main() -> ExitCode {
     let began = Instant::now();
     let mut run = Run { chance: Chance::new(limits.seed), tally: Tally::default(), only: limits.only };
     let over = |tally: &Tally| {
-        limits.calls.is_some_and(|calls| tally.all() >= calls) || limits.seconds.is_some_and(|seconds| began.elapsed() >= Duration::from_secs(seconds))
+        limits.calls.is_some_and(|calls| tally.all() >= calls)
+            || limits.seconds.is_some_and(|seconds| began.elapsed() >= Duration::from_secs(seconds))
     };
     for round in 0u64.. {
         if over(&run.tally) {

@@ -1,9 +1,10 @@
 //! Sections, text fields and descriptor lists that are right, made by chance; and damage to them. A thing under construction remembers
 //! where its lengths and counts stand, so that damage can aim at them.
 
+use crate::case::smaller_bytes;
 use crate::chance::Chance;
 use crate::coder;
-use reference::section::checksum;
+use reference::section::{checksum, section_length};
 use reference::Kind;
 
 #[derive(Clone, Default)]
@@ -400,13 +401,29 @@ pub fn damaged(chance: &mut Chance, mut built: Built) -> Vec<u8> {
     built.bytes
 }
 
-/// A section as it may come: right, or broken and mostly sealed again; or plain chance. True where it is sealed with its length.
-pub fn received(chance: &mut Chance) -> (Vec<u8>, bool) {
+/// Whether bytes are a section as far as its length and checksum say.
+fn sealed(bytes: &[u8]) -> bool {
+    bytes.len() >= 7 && section_length(bytes[1], bytes[2]) == bytes.len() - 3 && checksum(bytes) == 0
+}
+
+/// Smaller bytes, sealed where these are.
+pub fn smaller(bytes: &[u8]) -> impl Iterator<Item = Vec<u8>> + '_ {
+    let sealed = sealed(bytes);
+    smaller_bytes(bytes).filter_map(move |mut smaller| {
+        if sealed {
+            reseal(&mut smaller, true);
+        }
+        (smaller != bytes).then_some(smaller)
+    })
+}
+
+/// A section as it may come: right, or broken and mostly sealed again; or plain chance.
+pub fn received(chance: &mut Chance) -> Vec<u8> {
     let kind = chance.of(&[Kind::Mgt, Kind::Tvct, Kind::Rrt, Kind::Eit, Kind::Eit, Kind::Eit, Kind::Ett]);
     match chance.below(100) {
         0 => {
             let size = chance.below(20);
-            (chance.bytes(size), false)
+            chance.bytes(size)
         }
         1 => {
             let mut bytes = vec![kind.table_id(), 0xF0];
@@ -414,7 +431,7 @@ pub fn received(chance: &mut Chance) -> (Vec<u8>, bool) {
             bytes.extend(chance.bytes(size + 14));
             bytes[5..9].copy_from_slice(&[0xC1, 0, 0, 0]);
             reseal(&mut bytes, true);
-            (bytes, true)
+            bytes
         }
         2 => {
             // A number of the header that a kind does not have.
@@ -424,7 +441,7 @@ pub fn received(chance: &mut Chance) -> (Vec<u8>, bool) {
             let mut bytes = section(chance, kind, head).bytes;
             bytes[8] = chance.of(&[0, 0, 0, 1]);
             reseal(&mut bytes, true);
-            (bytes, true)
+            bytes
         }
         3 => {
             // section_length at the ends of the kinds' ranges, with as many bytes.
@@ -433,23 +450,18 @@ pub fn received(chance: &mut Chance) -> (Vec<u8>, bool) {
             let mut bytes = section(chance, kind, head).bytes;
             bytes.resize(length + 3, 0);
             reseal(&mut bytes, true);
-            (bytes, true)
+            bytes
         }
         _ => {
             let head = head(chance, kind);
             let built = section(chance, kind, head);
             let mut bytes = damaged(chance, built);
             match chance.below(12) {
-                0 => (bytes, false),
-                1 => {
-                    reseal(&mut bytes, false);
-                    (bytes, false)
-                }
-                _ => {
-                    reseal(&mut bytes, true);
-                    (bytes, true)
-                }
+                0 => {}
+                1 => reseal(&mut bytes, false),
+                _ => reseal(&mut bytes, true),
             }
+            bytes
         }
     }
 }

@@ -5,7 +5,7 @@ use crate::case::{hex, Case, Family, Tally, BEFORE};
 use crate::chance::Chance;
 use crate::library::*;
 use crate::make::{self, Head};
-use reference::shelf::{PLACE_BYTES, LARGEST_PID};
+use reference::shelf::{LARGEST_PID, PLACE_BYTES};
 use reference::{Kind, Place, Refusal, Shelf, Status, Watch};
 
 const RECORD: usize = 6;
@@ -61,7 +61,11 @@ fn place_of(row: &[u32]) -> Place {
 
 impl Memory {
     fn empty(records: usize, places: usize) -> Memory {
-        Memory { watches: vec![0; RECORD * records], places: vec![0; ROW * places], area: vec![0; PLACE_BYTES * places] }
+        Memory {
+            watches: vec![0; RECORD * records],
+            places: vec![0; ROW * places],
+            area: vec![0; PLACE_BYTES * places],
+        }
     }
 
     /// The shelf that the memory means; rows that are not whole are none, which the sizes refuse.
@@ -84,11 +88,19 @@ impl Memory {
             && old.watches.iter().zip(&new.watches).enumerate().all(|(at, (old, new))| {
                 let (now, then) = (&self.watches[record(at)], &before.watches[record(at)]);
                 let meant = watch_of(now);
-                if old == new { now == then } else { meant == *new || !meant.live && !new.live }
+                if old == new {
+                    now == then
+                } else {
+                    meant == *new || !meant.live && !new.live
+                }
             })
             && old.places.iter().zip(&new.places).enumerate().all(|(at, (old, new))| {
                 let (now, then) = (&self.places[row(at)], &before.places[row(at)]);
-                if old == new { now == then } else { *now == [1, new.watch, new.number, new.length, 0] || now[0] == 0 && !new.used }
+                if old == new {
+                    now == then
+                } else {
+                    *now == [1, new.watch, new.number, new.length, 0] || now[0] == 0 && !new.used
+                }
             })
     }
 }
@@ -197,20 +209,34 @@ impl Case for History {
     fn smaller(&self) -> Box<dyn Iterator<Item = Self> + '_> {
         let n = self.steps.len();
         let sizes = std::iter::successors(Some(n / 2), |&size| Some(size / 2)).take_while(|&size| size > 0);
-        Box::new(sizes.flat_map(move |size| {
+        let fewer = sizes.flat_map(move |size| {
             (0..=n - size).map(move |at| {
                 let mut fewer = self.clone();
                 fewer.steps.drain(at..at + size);
                 fewer
             })
-        }))
+        });
+        let shorter = (0..n).flat_map(move |at| {
+            make::smaller(&self.steps[at].section).map(move |section| {
+                let mut shorter = self.clone();
+                shorter.steps[at].section = section;
+                shorter
+            })
+        });
+        Box::new(fewer.chain(shorter))
     }
 
     fn shown(&self) -> String {
         let shelf = self.start.shelf();
         let mut words = format!("{:?} {:?}, {} bytes\n", shelf.watches, shelf.places, self.start.area.len());
         for step in &self.steps {
-            words += &format!("{:?} {:?}, reply of {}, section {}\n", step.does, step.question, step.told, hex(&step.section));
+            words += &format!(
+                "{:?} {:?}, reply of {}, section {}\n",
+                step.does,
+                step.question,
+                step.told,
+                hex(&step.section)
+            );
         }
         words
     }
@@ -375,7 +401,11 @@ pub fn unruly(chance: &mut Chance) -> Vec<History> {
         for _ in 0..1 + chance.below(2) {
             changed(chance, &mut start);
         }
-        cases.extend(ALL.map(|does| History { family: Family::Unruly, start: start.clone(), steps: vec![step(chance, &keys, does)] }));
+        cases.extend(ALL.map(|does| History {
+            family: Family::Unruly,
+            start: start.clone(),
+            steps: vec![step(chance, &keys, does)],
+        }));
     }
     cases
 }

@@ -48,7 +48,16 @@ impl Case for Write {
                 guide_write_ett(self.given.as_ptr(), bytes, n, out.as_mut_ptr(), self.room, length.as_mut_ptr())
             } else {
                 let (rows, numbers) = (self.rows.as_ptr(), self.rows.len());
-                guide_write_eit(self.given.as_ptr(), rows, numbers, bytes, n, out.as_mut_ptr(), self.room, length.as_mut_ptr())
+                guide_write_eit(
+                    self.given.as_ptr(),
+                    rows,
+                    numbers,
+                    bytes,
+                    n,
+                    out.as_mut_ptr(),
+                    self.room,
+                    length.as_mut_ptr(),
+                )
             }
         };
         let expected = self.expected();
@@ -76,7 +85,14 @@ impl Case for Write {
     }
 
     fn shown(&self) -> String {
-        format!("{:?}, given {:?}, rows {:?}, room {}, bytes {}", self.kind, self.given, self.rows, self.room, hex(&self.bytes))
+        format!(
+            "{:?}, given {:?}, rows {:?}, room {}, bytes {}",
+            self.kind,
+            self.given,
+            self.rows,
+            self.room,
+            hex(&self.bytes)
+        )
     }
 }
 
@@ -92,12 +108,19 @@ fn break_one(chance: &mut Chance, write: &mut Write) {
             let (at, bits) = chance.of(&[(0, 16), (1, 5), (2, 1), (3, 8), (4, 8)]);
             write.given[at] = edge(chance, bits);
         }
-        1 => write.given[5] = chance.of(&[0, 1, 255, 256, u32::MAX, write.given[5].wrapping_add(1), write.given[5].wrapping_sub(1)]),
+        1 => {
+            write.given[5] =
+                chance.of(&[0, 1, 255, 256, u32::MAX, write.given[5].wrapping_add(1), write.given[5].wrapping_sub(1)])
+        }
         2 | 3 if !write.rows.is_empty() => {
             let row = chance.below(write.rows.len().div_ceil(8));
             let (at, bits) = chance.of(&[(0, 14), (1, 32), (2, 2), (3, 20), (4, 16), (5, 8), (6, 16), (7, 12)]);
             if let Some(number) = write.rows.get_mut(8 * row + at) {
-                *number = if chance.often(50) { edge(chance, bits) } else { number.wrapping_add(chance.of(&[1, u32::MAX, 2, 7])) };
+                *number = if chance.often(50) {
+                    edge(chance, bits)
+                } else {
+                    number.wrapping_add(chance.of(&[1, u32::MAX, 2, 7]))
+                };
             }
         }
         4 => {
@@ -127,7 +150,12 @@ fn eit(chance: &mut Chance) -> Write {
         let most = if events > 5 { 0 } else { 1500 };
         let list = make::list(chance, most, true).bytes;
         let start = write.bytes.len() as u32;
-        write.rows.extend([chance.next() as u32 & 0x3FFF, chance.next() as u32, chance.below(4) as u32, chance.next() as u32 & 0xF_FFFF]);
+        write.rows.extend([
+            chance.next() as u32 & 0x3FFF,
+            chance.next() as u32,
+            chance.below(4) as u32,
+            chance.next() as u32 & 0xF_FFFF,
+        ]);
         write.rows.extend([start, title.len() as u32, start + title.len() as u32, list.len() as u32]);
         write.bytes.extend(title);
         write.bytes.extend(list);
@@ -144,14 +172,23 @@ fn ett(chance: &mut Chance) -> Write {
 
 /// A section that was received, to be written again from its own rows and bytes.
 fn again(chance: &mut Chance) -> Option<Write> {
-    let (bytes, _) = make::received(chance);
+    let bytes = make::received(chance);
     let table = tables::eit(&bytes).ok()?;
     let h = table.header;
-    let given = [h.extension.into(), h.version.into(), h.current.into(), h.number.into(), h.last.into(), table.events.len() as u32];
+    let given = [
+        h.extension.into(),
+        h.version.into(),
+        h.current.into(),
+        h.number.into(),
+        h.last.into(),
+        table.events.len() as u32,
+    ];
     let rows = table.events.iter().flat_map(|event| {
         let (title, list) = (event.title_part, event.descriptors);
         let parts = [title.start, title.length, list.start, list.length].map(|number| number as u32);
-        [event.event_id.into(), event.start_time, event.etm_location.into(), event.length_in_seconds].into_iter().chain(parts)
+        [event.event_id.into(), event.start_time, event.etm_location.into(), event.length_in_seconds]
+            .into_iter()
+            .chain(parts)
     });
     Some(Write { kind: Kind::Eit, given, rows: rows.collect(), bytes, room: 0 })
 }

@@ -255,7 +255,9 @@ pub(crate) mod tests {
     }
 
     fn pack(bits: &[usize]) -> Vec<u8> {
-        bits.chunks(8).map(|chunk| chunk.iter().enumerate().fold(0, |byte, (at, bit)| byte | (*bit as u8) << (7 - at))).collect()
+        bits.chunks(8)
+            .map(|chunk| chunk.iter().enumerate().fold(0, |byte, (at, bit)| byte | (*bit as u8) << (7 - at)))
+            .collect()
     }
 
     pub(crate) fn encode(kind: usize, text: &str) -> Vec<u8> {

@@ -69,10 +69,7 @@ fn regions(bytes: &[u8], content: Part) -> Result<Vec<Region>, Fault> {
         let region = cursor.field(0, 8)? as u8;
         let mut dimensions = Vec::new();
         for _ in 0..cursor.field(0, 8)? {
-            dimensions.push(RatedDimension {
-                dimension: cursor.field(0, 8)? as u8,
-                value: cursor.field(4, 4)? as u8,
-            });
+            dimensions.push(RatedDimension { dimension: cursor.field(0, 8)? as u8, value: cursor.field(4, 4)? as u8 });
         }
         let text = cursor.counted(0, 8)?;
         text::strings(bytes, text)?;

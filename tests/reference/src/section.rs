@@ -165,10 +165,7 @@ fn header(bytes: &[u8], asked: Option<Kind>) -> Result<Header, Refusal> {
 }
 
 /// The header and the walked body; the inner error is where the body fails.
-pub(crate) fn walk(
-    bytes: &[u8],
-    asked: Option<Kind>,
-) -> Result<(Header, Result<tables::Body, usize>), Refusal> {
+pub(crate) fn walk(bytes: &[u8], asked: Option<Kind>) -> Result<(Header, Result<tables::Body, usize>), Refusal> {
     let header = header(bytes, asked)?;
     Ok((header, tables::body(bytes, &header)))
 }

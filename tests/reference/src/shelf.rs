@@ -196,8 +196,7 @@ impl Shelf {
         if self.promised() + u64::from(quota) > self.places.len() as u64 {
             return Err(21);
         }
-        self.watches[record] =
-            Watch { live: true, pid, table_id, extension, quota, heard: false, version: 0, last: 0 };
+        self.watches[record] = Watch { live: true, pid, table_id, extension, quota, heard: false, version: 0, last: 0 };
         Ok(record)
     }
 
@@ -458,7 +457,9 @@ mod tests {
             assert_eq!(shelf, before, "{name}");
         }
         let meaningless: Vec<Change> = vec![
-            ("record not open", |s| s.watches[2] = Watch { pid: 9999, quota: 99, heard: true, last: 99, version: 99, ..Watch::default() }),
+            ("record not open", |s| {
+                s.watches[2] = Watch { pid: 9999, quota: 99, heard: true, last: 99, version: 99, ..Watch::default() }
+            }),
             ("free place", |s| s.places[3] = Place { used: false, watch: 99, number: 99, length: 9999 }),
             ("no edition", |s| s.watches[1].last = 99),
             ("version", |s| s.watches[0].version = 32),

@@ -482,7 +482,8 @@ mod tests {
         assert_eq!(cut(Kind::Tvct, &lone, lone.len()), Some(34));
 
         let eit = [&[1][..], &[0; 9], &[11], &tea(), &[0xF0, 0]].concat();
-        let expected = [(1, 1), (2, 1), (3, 3), (6, 3), (7, 7), (8, 7), (9, 7), (10, 10), (11, 10), (21, 10), (22, 22), (23, 22)];
+        let expected =
+            [(1, 1), (2, 1), (3, 3), (6, 3), (7, 7), (8, 7), (9, 7), (10, 10), (11, 10), (21, 10), (22, 22), (23, 22)];
         for (length, at) in expected {
             assert_eq!(cut(Kind::Eit, &eit, length), Some(at), "{length}");
         }

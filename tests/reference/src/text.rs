@@ -146,12 +146,7 @@ pub fn section_units(section: &[u8], place: Where, number: usize) -> Result<Vec<
     units_in(section, text_at(section, place)?, number)
 }
 
-pub fn section_units_within(
-    section: &[u8],
-    place: Where,
-    number: usize,
-    room: usize,
-) -> Result<Vec<u16>, Refusal> {
+pub fn section_units_within(section: &[u8], place: Where, number: usize, room: usize) -> Result<Vec<u16>, Refusal> {
     within(section_units(section, place, number)?, room)
 }
 

@@ -147,9 +147,7 @@ mod tests {
         assert_eq!(bytes, eit_of(&[(5, 1000, 1800, &tea, &[])]));
         assert_eq!(
             bytes[..24],
-            [
-                0xCB, 0xF0, 34, 0, 7, 0xC7, 0, 0, 0, 1, 0xC0, 5, 0, 0, 3, 0xE8, 0xC0, 7, 8, 11, 1, b'e', b'n', b'g'
-            ]
+            [0xCB, 0xF0, 34, 0, 7, 0xC7, 0, 0, 0, 1, 0xC0, 5, 0, 0, 3, 0xE8, 0xC0, 7, 8, 11, 1, b'e', b'n', b'g']
         );
         let event = tables::eit_event(&bytes, 0).unwrap();
         assert_eq!((event.event_id, event.start_time, event.length_in_seconds), (5, 1000, 1800));
@@ -257,7 +255,12 @@ mod tests {
             for _ in 0..count {
                 let title = &titles[random.below(3)];
                 let list = &lists[random.below(3)];
-                rows.extend([random.below(1 << 14) as u64, random.next() >> 32, random.below(4) as u64, random.below(1 << 20) as u64]);
+                rows.extend([
+                    random.below(1 << 14) as u64,
+                    random.next() >> 32,
+                    random.below(4) as u64,
+                    random.below(1 << 20) as u64,
+                ]);
                 rows.extend([bytes.len() as u64, title.len() as u64]);
                 bytes.extend(title);
                 rows.extend([bytes.len() as u64, list.len() as u64]);
