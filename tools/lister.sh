@@ -16,5 +16,5 @@ else
     kit=$(sh tools/kit_for_both.sh)
     rm -f target/stamp/lister "$kit/arm.o"
     RATTLE_HOME=$kit rt check lister >target/guide/lister.log 2>&1 || { cat target/guide/lister.log; exit 1; }
-    gcc -o $made "$kit/arm.o"
+    gcc -o $made "$kit/arm.o" tools/errno.c
 fi

@@ -2,7 +2,7 @@
 use Prim.Native.Nat.{ℕ, zero, suc, _+_, _-_, _≤_, _<_}
 use mathlib.Core.Path.{_≡_, refl, sym, ap, _∙_, subst}
 use mathlib.Core.Bool.{true, false}
-use mathlib.Core.List.{List, [], _∷_, _++_}
+use mathlib.Core.List.{List, [], _∷_}
 use native.Mathlib.Nat.{suc-add}
 use native.Mathlib.Omega.{arith}
 use lib.IntN.{ℤ, pos, negsuc}
@@ -17,25 +17,25 @@ use mir.ValLaws.{toZ-ofZ}
 use Rattle.bytes_put.proofs.PutLaws.{copy-more}
 use Rattle.listing.specs.declared.Input.{Input}
 use Rattle.listing.specs.declared.Input.the-variants.{More, Ended}
-use Rattle.lister.specs.Reading.{inHand, Tells, Fetched}
+use Rattle.lister.specs.Reading.{inHand, Means, Fetched}
 use Rattle.lister.specs.declared.Hand.{Hand}
 
 -- ---- what a read tells
-pub more-read : (z : ℤ) → SFits w64 z → ltZ (pos 0) (toZ w64 (ofZ w64 z)) ≡ true → Tells z More
+pub more-read : (z : ℤ) → SFits w64 z → ltZ (pos 0) (toZ w64 (ofZ w64 z)) ≡ true → Means z More
 more-read z f e = by z (ap (ltZ (pos 0)) (sym (toZ-ofZ w64 z f)) ∙ e)
   where
-    by : (z : ℤ) → ltZ (pos 0) z ≡ true → Tells z More
+    by : (z : ℤ) → ltZ (pos 0) z ≡ true → Means z More
     by (pos zero) e = absurd (omega (arith, ltb-true 0 0 e))
     by (pos (suc k)) e = refl
     by (negsuc k) e = let x : _≡_ {A = ℕ} 0 1 = cc in absurd (omega arith)
 
-pub none-read : (z : ℤ) → SFits w64 z → ofZ w64 z ≡ 0 → Tells z Ended
-none-read z f e = subst (λ (y : ℤ). Tells y Ended) (ap (toZ w64) (sym e) ∙ toZ-ofZ w64 z f) refl
+pub none-read : (z : ℤ) → SFits w64 z → ofZ w64 z ≡ 0 → Means z Ended
+none-read z f e = subst (λ (y : ℤ). Means y Ended) (ap (toZ w64) (sym e) ∙ toZ-ofZ w64 z f) refl
 
-pub failed : (z : ℤ) (i : Input) → (i ≡ Ended → ⊥) → SFits w64 z → ltZ (pos 0) (toZ w64 (ofZ w64 z)) ≡ false → (ofZ w64 z ≡ 0 → ⊥) → Tells z i
+pub failed : (z : ℤ) (i : Input) → (i ≡ Ended → ⊥) → SFits w64 z → ltZ (pos 0) (toZ w64 (ofZ w64 z)) ≡ false → (ofZ w64 z ≡ 0 → ⊥) → Means z i
 failed z i g f e h = by z (ap (ltZ (pos 0)) (sym (toZ-ofZ w64 z f)) ∙ e) h
   where
-    by : (z : ℤ) → ltZ (pos 0) z ≡ false → (ofZ w64 z ≡ 0 → ⊥) → Tells z i
+    by : (z : ℤ) → ltZ (pos 0) z ≡ false → (ofZ w64 z ≡ 0 → ⊥) → Means z i
     by (pos zero) e h = absurd (h refl)
     by (pos (suc k)) e h = absurd (omega (arith, ltb-false 0 (suc k) e))
     by (negsuc k) e h = g

@@ -1,12 +1,11 @@
 -- What the program's functions hand on: the bytes in hand, and how the input stands.
 use Prim.Native.Nat.{ℕ, zero, suc, _-_, _≤_, _<_}
 use mathlib.Core.Path.{_≡_}
-use mathlib.Core.Bool.{true}
 use mathlib.Core.List.{List}
 use lib.ListN.{length, take, drop}
 use lib.IntN.{ℤ, pos, negsuc}
 use Rattle.listing.specs.declared.Input.{Input}
-use Rattle.listing.specs.declared.Input.the-variants.{More, Ended, Unread}
+use Rattle.listing.specs.declared.Input.the-variants.{More, Ended}
 use Rattle.listing.specs.declared.Next.the-variants.{Wait}
 use Rattle.listing.specs.Runs.{allSteps}
 use Rattle.lister.specs.declared.Hand.{Hand}
@@ -16,11 +15,11 @@ use Rattle.lister.specs.declared.Answered.{Answered}
 abbrev pub inHand : List ℕ → ℕ → ℕ → List ℕ
 inHand room from to = take (to - from) (drop from room)
 
--- SCOPE 8.6: what a read tells of the input. One that fails is no end
-abbrev pub Tells : ℤ → Input → Type 0
-Tells (pos zero) i = i ≡ Ended
-Tells (pos (suc k)) i = i ≡ More
-Tells (negsuc k) i = i ≡ Ended → ⊥
+-- SCOPE 8.6: what a read means for the input. One that fails is no end
+abbrev pub Means : ℤ → Input → Type 0
+Means (pos zero) i = i ≡ Ended
+Means (pos (suc k)) i = i ≡ More
+Means (negsuc k) i = i ≡ Ended → ⊥
 
 -- behind what was in hand in the room l stands what was read, in the room e
 pub record Fetched (l : List ℕ) (from to : ℕ) (h : Hand) (e : List ℕ) : Type 0 where

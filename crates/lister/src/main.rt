@@ -11,7 +11,7 @@ ghost use mathlib.Core.Bool.{true};
 ghost use Prim.Native.Nat.{_-_, _≤_, _<_};
 ghost use lib.ListN.{length};
 ghost use lib.Seq.{sets};
-ghost use Rattle.lister.specs.Reading.{inHand, Tells, Fetched, Stands};
+ghost use Rattle.lister.specs.Reading.{inHand, Means, Fetched, Stands};
 
 // Room for the input, and for the lines of any record.
 const ROOM: usize = 65536;
@@ -34,7 +34,7 @@ struct Answered {
 
 // A read that a signal interrupted is tried again.
 fn input_after(got: isize) -> Input
-    ensures { λ r. ⌜ Tells got r ⌝ }
+    ensures { λ r. ⌜ Means got r ⌝ }
 {
     if got > 0 {
         return Input::More;

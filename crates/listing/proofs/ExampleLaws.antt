@@ -14,7 +14,7 @@ use Rattle.descriptor.specs.Places.{listAt, listEnd}
 use Rattle.text.specs.Segments.{wayOf, pairs, utf16Units, unitsBy, segmentUnits}
 use Rattle.text.specs.Strings.{standing, stringCount, stringAt, joined, joinedUnits, stringUnits}
 use Rattle.eit.specs.Format.{event, events, eit}
-use Rattle.eit.specs.Fields.{countAt, firstAt, titlePart, titleAt, descriptorsAt, eventAt, eventEnd}
+use Rattle.eit.specs.Fields.{titlePart, titleAt, descriptorsAt, eventAt, eventEnd}
 use Rattle.eit.specs.Titles.{titleOf}
 use Rattle.section.specs.Bodies.{bodyOf}
 use Rattle.section.specs.Headers.{headerBy, ofKind, lengthTests, checksumTest, numberTests}

@@ -1,11 +1,11 @@
 -- What a step puts fits an output of 262,144 bytes, so an output of that size begins with all of it.
 use Prim.Native.Nat.{ℕ, _+_, _^_, _≤_, _<_}
-use mathlib.Core.Path.{_≡_, refl, sym, ap, _∙_}
+use mathlib.Core.Path.{_≡_, refl, ap, _∙_}
 use mathlib.Core.Bool.{Bool, true, false}
-use mathlib.Core.List.{List, []}
+use mathlib.Core.List.{List}
 use native.Mathlib.Omega.{arith}
 use lib.ListN.{length, take, drop}
-use lib.Seq.{sets, sets-eq, take-at}
+use lib.Seq.{sets-eq, take-at}
 use Rattle.format.specs.Lawful.{Bytes}
 use Rattle.record.specs.Records.{headSize, toCome, whole}
 use Rattle.shown.proofs.BothLaws.{lt-either, eq-either}

@@ -1,5 +1,5 @@
 -- What the front of some bytes tells: too little, no record, or a record; and that bytes behind it change nothing of what it tells.
-use Prim.Native.Nat.{ℕ, _+_, _*_, _%_, _≤_, _<_}
+use Prim.Native.Nat.{ℕ, _+_, _%_, _≤_, _<_}
 use mathlib.Core.Path.{_≡_, refl, sym, ap, _∙_}
 use mathlib.Core.Bool.{Bool, true, false}
 use mathlib.Core.List.{List, _++_}
@@ -10,7 +10,7 @@ use lib.Seq.{take-append-le, drop-append-le}
 use borrow.Author.Tests.{ltb-true, ltb-false, eqb-true, eqb-false}
 use Rattle.logic.proofs.ChoiceLaws.{lt-yes, lt-no, eq-yes, eq-no}
 use Rattle.bytes_at.specs.Fields.{wordAt}
-use Rattle.record.specs.Records.{markIn, pidIn, lengthIn, sectionIn, headSize, toCome, whole}
+use Rattle.record.specs.Records.{markIn, lengthIn, sectionIn, headSize, toCome, whole}
 use Rattle.record.proofs.RecordLaws.{cut-off, all-there}
 use Rattle.lines.specs.Records.{recordLines}
 use Rattle.listing.specs.Listing.{behind}

@@ -1,12 +1,10 @@
 -- What a step leaves to be done: a record takes bytes, and the steps go on behind it; more input is awaited only while a record is short.
-use Prim.Native.Nat.{ℕ, zero, suc, _+_, _%_, _≤_, _<_}
+use Prim.Native.Nat.{ℕ, zero, suc, _+_, _≤_, _<_}
 use mathlib.Core.Path.{_≡_, refl, sym, ap, _∙_, subst}
-use mathlib.Core.Bool.{Bool, true, false}
-use mathlib.Core.List.{List, _++_}
+use mathlib.Core.Bool.{true, false}
+use mathlib.Core.List.{List}
 use native.Mathlib.Omega.{arith}
-use lib.Dec.{eqb}
 use lib.ListN.{length, drop, length-drop}
-use Rattle.logic.specs.Choices.{pick, ifEq}
 use Rattle.shown.proofs.BothLaws.{lt-either, eq-either}
 use Rattle.record.specs.Records.{markIn, headSize, lengthIn, toCome}
 use Rattle.lines.specs.Records.{lastLine, badLines}

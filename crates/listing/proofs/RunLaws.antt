@@ -1,13 +1,13 @@
 -- The steps of a run print the listing, however the input comes in pieces.
 use Prim.Native.Nat.{ℕ, zero, suc, _+_, _≤_, _<_}
-use mathlib.Core.Path.{_≡_, refl, sym, ap, _∙_, subst}
+use mathlib.Core.Path.{_≡_, refl, sym, ap, _∙_}
 use mathlib.Core.Bool.{Bool, true, false}
 use lib.Dec.{eqb}
 use mathlib.Core.List.{List, [], _∷_, _++_, append-assoc, append-nil}
 use native.Mathlib.Omega.{arith}
 use lib.ListN.{length, drop, length-append, length-drop}
 use Rattle.logic.specs.Choices.{pick, ifEq}
-use Rattle.logic.proofs.ChoiceLaws.{eq-yes, eq-no}
+use Rattle.logic.proofs.ChoiceLaws.{eq-no}
 use Rattle.record.specs.Records.{markIn, headSize, lengthIn, toCome, whole}
 use Rattle.lines.specs.Records.{firstLine, lastLine, recordLines, badLines}
 use Rattle.listing.specs.Listing.{Ending, ended, unread, stopLines, behind, linesFrom, listing}
@@ -15,7 +15,7 @@ use Rattle.listing.specs.Steps.{Step, over, shortStep, fullStep, stepOf}
 use Rattle.listing.specs.Runs.{Steps, after, stepsOf, allSteps, unlessOver, toldBy, runFrom, runs, joined}
 use Rattle.listing.specs.declared.Input.{Input}
 use Rattle.listing.specs.declared.Input.the-variants.{More}
-use Rattle.listing.specs.declared.Next.the-variants.{Record, Wait, Over}
+use Rattle.listing.specs.declared.Next.the-variants.{Over}
 use Rattle.listing.proofs.StepLaws.{too-short, long-enough}
 use Rattle.listing.proofs.FrontLaws.{Front, short, wrong, found, front, wrong-whole, wrong-to-come, found-whole, found-to-come, mark-kept, length-kept, behind-kept, lines-kept}
 

@@ -2,7 +2,7 @@
 use Prim.Native.Nat.{ℕ, zero, suc, _+_, _/_, _%_, _≤_, _<_, min}
 use mathlib.Core.Path.{_≡_, refl, sym, ap, _∙_, subst}
 use mathlib.Core.Bool.{Bool, true, false}
-use mathlib.Core.List.{List, [], _∷_, _++_}
+use mathlib.Core.List.{List, [], _∷_, _++_, append-assoc}
 use native.Mathlib.Omega.{arith}
 use lib.Dec.{leb}
 use borrow.Author.Tests.{leb-true, leb-false}
@@ -51,20 +51,44 @@ put-more {l} {k} {e} {n} {m} {r} bs i h p q =
 pub put-end : {l e : List ℕ} {n r : ℕ} (bs : List ℕ) (i : ℕ) → length bs ≤ i → Put (take i bs) l n r e → Put bs l n r e
 put-end {l} {e} {n} {r} bs i h p = subst (λ (x : List ℕ). Put x l n r e) (take-all i bs h) p
 
--- a number of one digit, and one of more
-pub number-small : {l e : List ℕ} {n r : ℕ} (x most : ℕ) → x < most → x < 10 → Put (digit x ∷ []) l n r e → Put (decimalBy most x) l n r e
-unfolding decimalBy
-number-small x zero h g p = absurd (omega (arith, h))
-number-small {l} {e} {n} {r} x (suc most) h g p =
-    subst (λ (y : List ℕ). Put y l n r e) (lt-yes x 10 (digit x ∷ []) (decimalBy most (x / 10) ++ (digit (x % 10) ∷ [])) {r = digit x ∷ []} g refl) p
+-- a number of one digit, of two, and of more
+module _ (x most : ℕ) where
+  one-digit : x < 10 → digit x ∷ [] ≡ decimalBy (suc most) x
+  unfolding decimalBy
+  one-digit h = lt-yes x 10 (digit x ∷ []) (decimalBy most (x / 10) ++ (digit (x % 10) ∷ [])) h refl
 
-pub number-more : {l k e : List ℕ} {n m r : ℕ} (x most : ℕ) → x < most → 10 ≤ x → ((j : ℕ) → x / 10 < j → Put (decimalBy j (x / 10)) l n m k)
-    → Put (digit (x % 10) ∷ []) k m r e → Put (decimalBy most x) l n r e
-unfolding decimalBy
-number-more x zero h g p q = absurd (omega (arith, h))
-number-more {l} {k} {e} {n} {m} {r} x (suc most) h g p q =
-    let b = decimalBy most (x / 10) ++ (digit (x % 10) ∷ []) in
-    subst (λ (y : List ℕ). Put y l n r e) (lt-no x 10 (digit x ∷ []) b {r = b} g refl) (put-then (p most (omega (arith, h, g))) q)
+  last-digit : 10 ≤ x → decimalBy most (x / 10) ++ (digit (x % 10) ∷ []) ≡ decimalBy (suc most) x
+  unfolding decimalBy
+  last-digit h = lt-no x 10 (digit x ∷ []) (decimalBy most (x / 10) ++ (digit (x % 10) ∷ [])) h refl
+
+two-digits : (x most : ℕ) → 10 ≤ x → x < 100 → digit (x / 10) ∷ digit (x % 10) ∷ [] ≡ decimalBy (suc (suc most)) x
+two-digits x most h g = ap (λ (l : List ℕ). l ++ (digit (x % 10) ∷ [])) (one-digit (x / 10) most (omega arith)) ∙ last-digit x (suc most) h
+
+last-two : (x most : ℕ) → 100 ≤ x
+    → decimalBy most (x / 100) ++ (digit (x % 100 / 10) ∷ digit (x % 100 % 10) ∷ []) ≡ decimalBy (suc (suc most)) x
+last-two x most h =
+    let a : x / 100 ≡ x / 10 / 10 = omega arith in
+    let b : x % 100 / 10 ≡ x / 10 % 10 = omega arith in
+    let c : x % 100 % 10 ≡ x % 10 = omega arith in
+    rw (a, b, c) (sym (append-assoc (decimalBy most (x / 10 / 10)) (digit (x / 10 % 10) ∷ []) (digit (x % 10) ∷ [])))
+    ∙ ap (λ (l : List ℕ). l ++ (digit (x % 10) ∷ [])) (last-digit (x / 10) most (omega arith)) ∙ last-digit x (suc most) (omega arith)
+
+module _ {l e : List ℕ} {n r : ℕ} where
+  pub number-small : (x most : ℕ) → x < most → x < 10 → Put (digit x ∷ []) l n r e → Put (decimalBy most x) l n r e
+  number-small x zero h g p = absurd (omega (arith, h))
+  number-small x (suc most) h g p = subst (λ (y : List ℕ). Put y l n r e) (one-digit x most g) p
+
+  pub number-pair : (x most : ℕ) → x < most → 10 ≤ x → x < 100 → Put (digit (x / 10) ∷ digit (x % 10) ∷ []) l n r e → Put (decimalBy most x) l n r e
+  number-pair x zero h g f p = absurd (omega (arith, h))
+  number-pair x (suc zero) h g f p = absurd (omega (arith, h, g))
+  number-pair x (suc (suc most)) h g f p = subst (λ (y : List ℕ). Put y l n r e) (two-digits x most g f) p
+
+  pub number-more : {k : List ℕ} {m : ℕ} (x most : ℕ) → x < most → 100 ≤ x → ((j : ℕ) → x / 100 < j → Put (decimalBy j (x / 100)) l n m k)
+      → Put (digit (x % 100 / 10) ∷ digit (x % 100 % 10) ∷ []) k m r e → Put (decimalBy most x) l n r e
+  number-more x zero h g p q = absurd (omega (arith, h))
+  number-more x (suc zero) h g p q = absurd (omega (arith, h, g))
+  number-more x (suc (suc most)) h g p q =
+      subst (λ (y : List ℕ). Put y l n r e) (last-two x most g) (put-then (p most (omega (arith, h, g))) q)
 
 -- the next place is the output's end at most
 pub put-inside : {bs l e : List ℕ} {n r : ℕ} → Put bs l n r e → r ≤ length e

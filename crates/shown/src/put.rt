@@ -3,7 +3,7 @@
 use refusal::Refusal;
 ghost use mathlib.Core.Path.{_≡_};
 ghost use mathlib.Core.List.{[], _∷_};
-ghost use Prim.Native.Nat.{ℕ, _<_, min};
+ghost use Prim.Native.Nat.{ℕ, _/_, _%_, _<_, min};
 ghost use Rattle.refusal.specs.Numbers.{numberOf};
 ghost use Rattle.shown.specs.Ascii.{digit, decimal, decimalBy, field};
 ghost use Rattle.shown.specs.Output.{Put};
@@ -43,15 +43,27 @@ fn digit_of(x: usize) -> u8
     48 + x as u8
 }
 
-// The digits before the last are those of a tenth.
+// Two digits, of which the first may be 0.
+fn put_pair(out: &mut [u8], n: usize, x: usize) -> usize
+    requires { ⌜ x < 100 ⌝ }
+    ensures { λ r. ⌜ Put (digit (x / 10) ∷ digit (x % 10) ∷ []) (now (out .entry)) n r (now (out .exit)) ⌝ }
+{
+    let m = put(out, n, digit_of(x / 10));
+    put(out, m, digit_of(x % 10))
+}
+
+// The digits before the last two are those of a hundredth: a call for two digits, since a call costs more than a digit.
 fn put_digits(out: &mut [u8], n: usize, x: usize) -> usize
     ensures { λ r. ⌜ ((most : ℕ) → x < most → Put (decimalBy most x) (now (out .entry)) n r (now (out .exit))) ⌝ }
 {
     if x < 10 {
         return put(out, n, digit_of(x));
     }
-    let m = put_digits(out, n, x / 10);
-    put(out, m, digit_of(x % 10))
+    if x < 100 {
+        return put_pair(out, n, x);
+    }
+    let m = put_digits(out, n, x / 100);
+    put_pair(out, m, x % 100)
 }
 
 pub fn put_number(out: &mut [u8], n: usize, x: usize) -> usize

@@ -1,7 +1,7 @@
 -- `answer` meets its contract: the steps that are left lead where all of them lead.
 use Prim.Native.Nat.{ℕ, _-_, _≤_}
 use native.Mathlib.Omega.{arith}
-use mathlib.Core.Path.{_≡_, refl, sym, ap, _∙_}
+use mathlib.Core.Path.{_≡_, refl, sym, _∙_}
 use lib.ListN.{length, drop}
 use lib.Seq.{length-take-le}
 use Rattle.listing.specs.Runs.{allSteps}

@@ -1,8 +1,4 @@
 -- `fetch` meets its contract.
-use mathlib.Core.Path.{sym, ap, _∙_}
-use native.Mathlib.Omega.{arith}
-use lib.ListN.{length}
-use lib.Seq.{length-sets}
 use Rattle.lister.proofs.ReadingLaws.{fetched-moved}
 use borrow.Author.Needs.{needs}
 use Rattle.lister.proofs.fetch.Statement.{statement}

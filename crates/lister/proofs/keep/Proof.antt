@@ -1,7 +1,7 @@
 -- `keep` meets its contract: the first i bytes are moved, and those still to be moved stand where they stood.
 use Prim.Native.Nat.{ℕ, _-_, _≤_}
 use native.Mathlib.Omega.{arith}
-use mathlib.Core.Path.{_≡_, refl, sym, ap, _∙_}
+use mathlib.Core.Path.{_≡_, refl, ap, _∙_}
 use lib.ListN.{length, take, drop}
 use lib.Seq.{sets, length-sets}
 use Rattle.lister.proofs.ReadingLaws.{move-more}

@@ -1,6 +1,6 @@
 -- `list` is safe and ends.
 use Prim.Native.Nat.{_-_, _^_, _≤_}
-use mathlib.Core.Path.{_≡_, sym}
+use mathlib.Core.Path.{_≡_}
 use native.Mathlib.Omega.{arith}
 use lib.ListN.{length}
 use Rattle.lister.proofs.AnswerLaws.{still, left-over}

@@ -1,11 +1,9 @@
 -- `put_short` meets its contract.
-use mathlib.Core.Path.{refl, sym, subst}
-use mathlib.Core.List.{List}
-use Prim.Native.Nat.{ℕ}
+use mathlib.Core.Path.{refl}
 use Rattle.listing.specs.Steps.{shortStep}
 use native.Mathlib.Omega.{arith}
 use Rattle.shown.proofs.PutLaws.{put-nothing}
-use Rattle.listing.proofs.StepLaws.{tells, tells-over}
+use Rattle.listing.proofs.StepLaws.{tells-over}
 use borrow.Author.Needs.{needs}
 use Rattle.listing.proofs.put_short.Statement.{statement}
 use Rattle.listing.proofs.put_short.Tie as tie
