@@ -11,10 +11,11 @@
 
 #include "clock.h"
 #include "guide.h"
+#include "stream.h"
 
 enum { ROUNDS = 15, LONGEST = GUIDE_LONGEST };
 
-static uint8_t bytes[1 << 20], section[LONGEST];
+static uint8_t section[LONGEST];
 static size_t size;
 
 // ---- libucsi: it turns the bytes of a section round where they stand, so it has a copy
@@ -88,15 +89,7 @@ static size_t all(size_t (*read)(const uint8_t *, size_t), size_t *sections) {
 
 static void compared(const char *folder, const char *name, const char *what, size_t (*peer)(const uint8_t *, size_t),
                      size_t (*ours)(const uint8_t *, size_t)) {
-    char path[4096];
-    snprintf(path, sizeof path, "%s/%s", folder, name);
-    FILE *f = fopen(path, "rb");
-    if (!f) {
-        perror(path);
-        exit(1);
-    }
-    size = fread(bytes, 1, sizeof bytes, f);
-    fclose(f);
+    size = read_stream(folder, name);
     double least[2] = {1e18, 1e18};
     size_t found[2], sections;
     for (int k = 0; k < ROUNDS; k++) {
@@ -119,8 +112,8 @@ int main(int argc, char **argv) {
     if (argc != 2)
         return 1;
     printf("%-32s %9s %12s %12s %10s\n", "a section", "letters", "libucsi ns", "ours ns", "times");
-    compared(argv[1], "plain.bin", "EIT, 40 plain titles", ucsi_titles, our_titles);
-    compared(argv[1], "type1.bin", "EIT, 40 compressed titles", ucsi_titles, our_titles);
-    compared(argv[1], "type2.bin", "ETT, compressed description", ucsi_extended, our_extended);
+    compared(argv[1], "plain", "EIT, 40 plain titles", ucsi_titles, our_titles);
+    compared(argv[1], "type1", "EIT, 40 compressed titles", ucsi_titles, our_titles);
+    compared(argv[1], "type2", "ETT, compressed description", ucsi_extended, our_extended);
     return 0;
 }
