@@ -5,10 +5,11 @@ use crate::case::{hex, written, Case, Family, Tally, BEFORE, BEFORE_16, BEHIND};
 use crate::chance::Chance;
 use crate::library::*;
 use crate::make;
-use reference::rating::{Advice, Descriptor};
+use reference::list::{self, Advice};
+use reference::section_text::{self, Where};
 use reference::tables::{self, Body, Channel, Dimension, Event, MgtTable, Value};
-use reference::text::{self, Heading, Where};
-use reference::{rating, section, Kind, Part, Rating, Refusal, Title};
+use reference::text;
+use reference::{fault, rating, section, Kind, Part, Rating, Refusal, Title};
 
 const NO_VALUE: u32 = u32::MAX;
 
@@ -156,20 +157,19 @@ fn place(which: Which) -> Result<Where, Refusal> {
     let [text, i, j, _] = which;
     let (i, value) = (i as usize, j as usize);
     match text {
-        1 => Ok(Where::EitTitle { event: i }),
-        2 => Ok(Where::EitAdvisory { event: i, region: j }),
-        3 => Ok(Where::EttText),
-        4 => Ok(Where::RrtName),
-        5 => Ok(Where::RrtDimensionName { dimension: i }),
-        6 => Ok(Where::RrtShort { dimension: i, value }),
-        7 => Ok(Where::RrtLong { dimension: i, value }),
+        1 => Ok(Where::EventTitle(i)),
+        2 => Ok(Where::AdvisoryText { event: i, region: j }),
+        3 => Ok(Where::Ett),
+        4 => Ok(Where::RegionName),
+        5 => Ok(Where::DimensionName(i)),
+        6 => Ok(Where::ShortValue(i, value)),
+        7 => Ok(Where::LongValue(i, value)),
         _ => Err(13),
     }
 }
 
-fn heading(heading: Heading) -> Told {
-    let [first, second, third] = heading.language;
-    numbers(vec![u32::from_be_bytes([0, first, second, third]), heading.segments as u32])
+fn heading([first, second, third]: [u8; 3], segments: usize) -> Told {
+    numbers(vec![u32::from_be_bytes([0, first, second, third]), segments as u32])
 }
 
 fn units(units: Vec<u16>) -> Told {
@@ -185,8 +185,16 @@ fn rating(rating: Rating) -> Told {
     })
 }
 
-fn descriptor(descriptor: Descriptor) -> Told {
-    numbers([&[u32::from(descriptor.tag)][..], &part(descriptor.content)].concat())
+fn descriptor(tag: u8, content: Part) -> Told {
+    numbers([&[u32::from(tag)][..], &part(content)].concat())
+}
+
+/// The rules' document has no place of a fault. That there is one is said by the second hand's walk, and where by docs/DECISIONS.md, 6; where the
+/// two do not agree that there is one, the answer is that of no library.
+fn place_of_fault(bytes: &[u8]) -> Result<u32, Refusal> {
+    let found = fault::fault(bytes)?;
+    let blamed = section::blamed(bytes)?;
+    Ok(if found.is_some() == blamed.is_some() { blamed.map_or(NO_VALUE, |at| at as u32) } else { NO_VALUE - 1 })
 }
 
 impl Call {
@@ -236,7 +244,7 @@ impl Call {
                     h.last.into(),
                 ])
             }
-            Fault => numbers(vec![section::fault(bytes)?.map_or(NO_VALUE, |at| at as u32)]),
+            Fault => numbers(vec![place_of_fault(bytes)?]),
             Mgt => {
                 let table = tables::mgt(bytes)?;
                 numbers([&[table.tables.len() as u32][..], &part(table.descriptors)].concat())
@@ -295,22 +303,42 @@ impl Call {
                 rows(events.len(), events.iter().flat_map(event_row).collect(), numbers)?
             }
             Titles { numbers, room } => titles(bytes, numbers, room)?,
-            Strings(which) => numbers(vec![text::section_number_of_strings(bytes, place(which)?)? as u32]),
-            Heading(which) => heading(text::section_heading(bytes, place(which)?, which[3] as usize)?),
-            Units(which) => {
-                Told { units: Vec::new(), ..units(text::section_units(bytes, place(which)?, which[3] as usize)?) }
+            Strings(which) => numbers(vec![section_text::section_number_of_strings(bytes, place(which)?)? as u32]),
+            Heading(which) => {
+                let (language, segments) = section_text::section_language(bytes, place(which)?, which[3] as usize)?;
+                heading(language, segments)
             }
-            Text(which, room) => units(text::section_units_within(bytes, place(which)?, which[3] as usize, room)?),
+            Units(which) => Told {
+                units: Vec::new(),
+                ..units(section_text::section_units(bytes, place(which)?, which[3] as usize)?)
+            },
+            Text(which, room) => {
+                units(section_text::section_units_within(bytes, place(which)?, which[3] as usize, room)?)
+            }
             FieldStrings => numbers(vec![text::number_of_strings(bytes)? as u32]),
-            FieldHeading(string) => heading(text::heading(bytes, string as usize)?),
+            FieldHeading(string) => {
+                let text::Heading { language, segments } = text::heading(bytes, string as usize)?;
+                heading(language, segments)
+            }
             FieldUnits(string) => Told { units: Vec::new(), ..units(text::units(bytes, string as usize)?) },
             FieldText(string, room) => units(text::units_within(bytes, string as usize, room)?),
             Rating { i, region, dimension } => rating(rating::rating(bytes, i as usize, region, dimension)?),
-            Descriptor { i, k } => descriptor(rating::event_descriptor(bytes, i as usize, k as usize)?),
+            Descriptor { i, k } => {
+                let found = rating::event_descriptor(bytes, i as usize, k as usize)?;
+                descriptor(found.tag, found.content)
+            }
             Advisory { i, region } => numbers(part(rating::advisory_text(bytes, i as usize, region)?).to_vec()),
-            ListRating { region, dimension } => rating(rating::list_rating(bytes, region, dimension)?),
-            ListDescriptor { k } => descriptor(rating::list_descriptor(bytes, k as usize)?),
-            ListAdvisory { region } => match rating::list_advice(bytes, region)? {
+            ListRating { region, dimension } => rating(match list::list_rating(bytes, region, dimension)? {
+                list::Rating::NoAdvisory => rating::Rating::NoAdvisory,
+                list::Rating::RegionAbsent => rating::Rating::RegionAbsent,
+                list::Rating::DimensionAbsent => rating::Rating::DimensionAbsent,
+                list::Rating::Value(value) => rating::Rating::Value(value),
+            }),
+            ListDescriptor { k } => {
+                let found = list::list_descriptor(bytes, k as usize)?;
+                descriptor(found.tag, found.content)
+            }
+            ListAdvisory { region } => match list::list_advice(bytes, region)? {
                 Advice::Region(region) => numbers(part(region.text).to_vec()),
                 Advice::NoAdvisory | Advice::RegionAbsent => return Err(13),
             },
@@ -435,7 +463,8 @@ fn which(chance: &mut Chance, bytes: &[u8], kind: Kind, body: Option<&Body>) -> 
         }
         _ => [3, 0, 0, 0],
     };
-    let field = place(which).ok().and_then(|place| text::text_at(bytes, place).ok()).and_then(|part| part.of(bytes));
+    let field =
+        place(which).ok().and_then(|place| section_text::text_at(bytes, place).ok()).and_then(|part| part.of(bytes));
     let (string, room) = string_and_room(chance, field);
     which[3] = string;
     (which, room)

@@ -43,7 +43,7 @@ impl Case for Listed {
 
     fn difference(&self, tally: &mut Tally) -> Option<String> {
         let input = self.records.concat();
-        let expected = reference::list(&input);
+        let expected = reference::lister::list(&input);
         tally.add(self, 0);
         let output = printed(&self.words, &input);
         (output != expected.as_bytes())

@@ -5,12 +5,13 @@ use crate::case::{hex, Case, Family, Tally, BEFORE};
 use crate::chance::Chance;
 use crate::library::*;
 use crate::make::{self, Head};
-use reference::shelf::{LARGEST_PID, PLACE_BYTES};
 use reference::{Kind, Place, Refusal, Shelf, Status, Watch};
 
 const RECORD: usize = 6;
 const ROW: usize = 5;
 const REPLY: usize = 3;
+const PLACE_BYTES: usize = 4096;
+const LARGEST_PID: u32 = 8191;
 
 #[derive(Clone, Copy, Debug, PartialEq, Eq)]
 enum Does {

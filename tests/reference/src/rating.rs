@@ -103,21 +103,9 @@ fn rating_in(list: Vec<Descriptor>, region: u32, dimension: u32) -> Rating {
     }
 }
 
-/// Refusal 9 for a descriptor list taken alone, judged as an event's list of an EIT.
-pub fn list(bytes: &[u8]) -> Result<Vec<Descriptor>, Refusal> {
+/// Refusal 9 for a descriptor list that a writer is given, judged as an event's list of an EIT.
+pub(crate) fn list(bytes: &[u8]) -> Result<Vec<Descriptor>, Refusal> {
     descriptors(bytes, Part::whole(bytes), true).map_err(|_| 9)
-}
-
-pub fn list_descriptor(bytes: &[u8], number: usize) -> Result<Descriptor, Refusal> {
-    entry(list(bytes)?, number)
-}
-
-pub fn list_rating(bytes: &[u8], region: u32, dimension: u32) -> Result<Rating, Refusal> {
-    Ok(rating_in(list(bytes)?, region, dimension))
-}
-
-pub fn list_advice(bytes: &[u8], region: u32) -> Result<Advice, Refusal> {
-    Ok(advice_in(list(bytes)?, region))
 }
 
 /// The descriptors of an event: refusals 1 to 9, then 13. Parts are counted from the section's first byte.
@@ -163,19 +151,17 @@ mod tests {
         let first = descriptor(0x87, &[0xC3, 1, 2, 0, 0xF3, 0, 0xF4, 0, 1, 1, 5, 0xF6, 0, 2, 0, 0]);
         let second = descriptor(0x87, &[1, 9, 1, 0, 1, 0]);
         let bytes = [descriptor(0x80, &[0x87]), first, second].concat();
-        let ask = |region, dimension| list_rating(&bytes, region, dimension);
+        let asked_of = |list: &[u8], region, dimension| rating(&eit_of(&[(5, 0, 0, &[], list)]), 0, region, dimension);
+        let ask = |region, dimension| asked_of(&bytes, region, dimension);
         assert_eq!(ask(1, 0), Ok(Rating::Value(3)));
         assert_eq!(ask(1, 5), Ok(Rating::DimensionAbsent));
         assert_eq!(ask(2, 0), Ok(Rating::DimensionAbsent));
         assert_eq!(ask(9, 0), Ok(Rating::RegionAbsent));
         assert_eq!(ask(257, 0), Ok(Rating::RegionAbsent));
         assert_eq!(ask(1, 256), Ok(Rating::DimensionAbsent));
-        assert_eq!(list_rating(&[], 1, 0), Ok(Rating::NoAdvisory));
-        assert_eq!(list_rating(&bytes[..3], 1, 0), Ok(Rating::NoAdvisory));
-        assert_eq!(list_rating(&[0x87, 1, 0xC0], 1, 0), Ok(Rating::RegionAbsent));
-        assert_eq!(list_descriptor(&bytes, 0).map(|d| (d.tag, d.content)), Ok((0x80, Part { start: 2, length: 1 })));
-        assert_eq!(list_descriptor(&bytes, 2).map(|d| d.tag), Ok(0x87));
-        assert_eq!(list_descriptor(&bytes, 3), Err(13));
+        assert_eq!(asked_of(&[], 1, 0), Ok(Rating::NoAdvisory));
+        assert_eq!(asked_of(&bytes[..3], 1, 0), Ok(Rating::NoAdvisory));
+        assert_eq!(asked_of(&[0x87, 1, 0xC0], 1, 0), Ok(Rating::RegionAbsent));
     }
 
     #[test]

@@ -123,7 +123,7 @@ pub fn section_length(second: u8, third: u8) -> usize {
 }
 
 /// Refusals 1 to 8. `asked` is the kind the call reads; none reads all five.
-fn header(bytes: &[u8], asked: Option<Kind>) -> Result<Header, Refusal> {
+pub(crate) fn header(bytes: &[u8], asked: Option<Kind>) -> Result<Header, Refusal> {
     let &[table_id, second, third, ..] = bytes else {
         return Err(1);
     };
@@ -176,10 +176,10 @@ pub fn judge(bytes: &[u8], asked: Option<Kind>) -> Result<Header, Refusal> {
     body.map(|_| header).map_err(|_| 9)
 }
 
-/// Refusals 1 to 8 as they are; then where refusal 9 shows: the first field in byte order that fails. That is
-/// the length field that promises more than its container has, a field cut short (the byte of its first bit,
+/// Refusals 1 to 8 as they are; then where refusal 9 shows by docs/DECISIONS.md, 6, since the rules have no such place: the first field in
+/// byte order that fails. That is the length field that promises more than its container has, a field cut short (the byte of its first bit,
 /// reserved bits before it counted in), the first byte left over, or the RRT count that is 0. None: sound.
-pub fn fault(bytes: &[u8]) -> Result<Option<usize>, Refusal> {
+pub fn blamed(bytes: &[u8]) -> Result<Option<usize>, Refusal> {
     Ok(walk(bytes, None)?.1.err())
 }
 
@@ -295,14 +295,14 @@ mod tests {
         bytes[8] = 0;
         seal(&mut bytes);
         assert_eq!(judge(&bytes, None), Err(8));
-        assert_eq!(fault(&bytes), Err(8));
+        assert_eq!(blamed(&bytes), Err(8));
         bytes[6] = 0;
         seal(&mut bytes);
         assert_eq!(judge(&bytes, None), Err(9));
-        assert_eq!(fault(&bytes), Ok(Some(10)));
+        assert_eq!(blamed(&bytes), Ok(Some(10)));
         bytes[9] = 0;
         seal(&mut bytes);
-        assert_eq!(fault(&bytes), Ok(None));
+        assert_eq!(blamed(&bytes), Ok(None));
         let header = judge(&bytes, Some(Kind::Eit));
         assert_eq!(
             header,

@@ -330,7 +330,7 @@ pub fn eit_event(bytes: &[u8], number: usize) -> Result<Event, Refusal> {
 mod tests {
     use super::*;
     use crate::samples::*;
-    use crate::section::{fault, judge};
+    use crate::section::{blamed, judge};
 
     fn part(start: usize, length: usize) -> Part {
         Part { start, length }
@@ -429,13 +429,13 @@ mod tests {
         let bytes = section_with(Kind::Ett, &[&[1, 2, 3, 4][..], &tea()].concat());
         let table = ett(&bytes).unwrap();
         assert_eq!((table.etm_id, table.text), (0x1020304, part(13, 11)));
-        assert_eq!(fault(&section_with(Kind::Ett, &[0, 0, 0, 0, 0, 0])), Ok(Some(14)));
-        assert_eq!(fault(&section_with(Kind::Ett, &[0, 0, 0, 0, 1])), Ok(Some(14)));
+        assert_eq!(blamed(&section_with(Kind::Ett, &[0, 0, 0, 0, 0, 0])), Ok(Some(14)));
+        assert_eq!(blamed(&section_with(Kind::Ett, &[0, 0, 0, 0, 1])), Ok(Some(14)));
     }
 
     /// The fault of a body cut to its first `length` bytes, offsets counted from the body's start.
     fn cut(kind: Kind, body: &[u8], length: usize) -> Option<usize> {
-        fault(&section_with(kind, &body[..length])).unwrap().map(|at| at - BODY_START)
+        blamed(&section_with(kind, &body[..length])).unwrap().map(|at| at - BODY_START)
     }
 
     #[test]
@@ -492,7 +492,7 @@ mod tests {
 
     #[test]
     fn faults_inside_texts_and_advisories() {
-        let at = |title: &[u8], list: &[u8]| fault(&eit_of(&[(1, 0, 0, title, list)])).unwrap();
+        let at = |title: &[u8], list: &[u8]| blamed(&eit_of(&[(1, 0, 0, title, list)])).unwrap();
         assert_eq!(at(&[], &[]), None);
         // A title starts at 20 of the section, a list after it and its two length bytes.
         assert_eq!(at(&[0, 0], &[]), Some(21));
@@ -562,7 +562,7 @@ mod tests {
                 seal(&mut bytes);
             }
             let judged = judge(&bytes, None);
-            match fault(&bytes) {
+            match blamed(&bytes) {
                 Ok(None) => {
                     sound += 1;
                     assert_eq!(judged.map(|header| header.kind), Ok(Kind::of_table_id(bytes[0].into()).unwrap()));
@@ -579,7 +579,7 @@ mod tests {
                 assert_eq!(read.is_ok(), judged.is_ok_and(|header| header.kind == kind));
             }
             let number = random.below(3);
-            let _ = text::section_units(&bytes, text::Where::EitTitle { event: number }, 0);
+            let _ = crate::section_text::section_units(&bytes, crate::section_text::Where::EventTitle(number), 0);
             let _ = rating::rating(&bytes, number, 1, 7);
             let _ = crate::lister::list(&bytes);
             let _ = crate::text::units(&bytes, number);

@@ -3,8 +3,7 @@
 
 use crate::annex_c;
 use crate::field::{Cursor, Fault, Part};
-use crate::rating;
-use crate::tables::{self, entry};
+use crate::tables::entry;
 use crate::Refusal;
 
 #[derive(Clone, Debug, PartialEq, Eq)]
@@ -108,48 +107,6 @@ pub fn units_within(text: &[u8], number: usize, room: usize) -> Result<Vec<u16>,
     within(units(text, number)?, room)
 }
 
-/// Where in a section a text stands.
-#[derive(Clone, Copy, Debug, PartialEq, Eq)]
-pub enum Where {
-    EitTitle { event: usize },
-    EitAdvisory { event: usize, region: u32 },
-    EttText,
-    RrtName,
-    RrtDimensionName { dimension: usize },
-    RrtShort { dimension: usize, value: usize },
-    RrtLong { dimension: usize, value: usize },
-}
-
-/// The text field there: refusals 1 to 9, then 13 for the entry.
-pub fn text_at(section: &[u8], place: Where) -> Result<Part, Refusal> {
-    match place {
-        Where::EitTitle { event } => Ok(tables::eit_event(section, event)?.title_part),
-        Where::EitAdvisory { event, region } => rating::advisory_text(section, event, region),
-        Where::EttText => Ok(tables::ett(section)?.text),
-        Where::RrtName => Ok(tables::rrt(section)?.name),
-        Where::RrtDimensionName { dimension } => Ok(tables::rrt_dimension(section, dimension)?.name),
-        Where::RrtShort { dimension, value } => Ok(tables::rrt_value(section, dimension, value)?.short),
-        Where::RrtLong { dimension, value } => Ok(tables::rrt_value(section, dimension, value)?.long),
-    }
-}
-
-pub fn section_number_of_strings(section: &[u8], place: Where) -> Result<usize, Refusal> {
-    let part = text_at(section, place)?;
-    Ok(sound(section, part)?.len())
-}
-
-pub fn section_heading(section: &[u8], place: Where, number: usize) -> Result<Heading, Refusal> {
-    heading_in(section, text_at(section, place)?, number)
-}
-
-pub fn section_units(section: &[u8], place: Where, number: usize) -> Result<Vec<u16>, Refusal> {
-    units_in(section, text_at(section, place)?, number)
-}
-
-pub fn section_units_within(section: &[u8], place: Where, number: usize, room: usize) -> Result<Vec<u16>, Refusal> {
-    within(section_units(section, place, number)?, room)
-}
-
 #[cfg(test)]
 mod tests {
     use super::*;
@@ -243,36 +200,5 @@ mod tests {
         assert_eq!(units(&both, 0), Ok("The nextThe next!".encode_utf16().collect()));
         assert_eq!(units(&one(1, 0, &[]), 0), Err(11));
         assert_eq!(units(&one(2, 0, &[]), 0), Err(11));
-    }
-
-    #[test]
-    fn texts_of_sections() {
-        let eit = eit_of(&[(5, 1000, 1800, &tea(), &advisory()), (6, 0, 0, &[], &[]), (7, 0, 0, &[0], &[])]);
-        let title = |event| Where::EitTitle { event };
-        assert_eq!(section_units(&eit, title(0), 0), Ok(vec![84, 101, 97]));
-        assert_eq!(section_units_within(&eit, title(0), 0, 2), Err(12));
-        assert_eq!(section_heading(&eit, title(0), 0).map(|h| h.segments), Ok(1));
-        assert_eq!(section_number_of_strings(&eit, title(0)), Ok(1));
-        assert_eq!(section_units(&eit, title(0), 1), Err(13));
-        assert_eq!(section_units(&eit, title(1), 0), Err(13));
-        assert_eq!(section_units(&eit, title(2), 0), Err(13));
-        assert_eq!(section_units(&eit, title(3), 0), Err(13));
-        let advice = |region| Where::EitAdvisory { event: 0, region };
-        assert_eq!(section_units(&eit, advice(1), 0), Ok("Tea".encode_utf16().collect()));
-        assert_eq!(section_units(&eit, advice(2), 0), Err(13));
-        assert_eq!(section_units(&eit, advice(3), 0), Err(13));
-        assert_eq!(section_units(&eit, Where::EttText, 0), Err(2));
-
-        let rrt = rrt_of(&tea(), &[(&tea(), &[(&tea(), &[]), (&[0], &tea())])]);
-        assert_eq!(section_units(&rrt, Where::RrtName, 0), Ok(vec![84, 101, 97]));
-        assert_eq!(section_units(&rrt, Where::RrtDimensionName { dimension: 0 }, 0), Ok(vec![84, 101, 97]));
-        assert_eq!(section_units(&rrt, Where::RrtDimensionName { dimension: 1 }, 0), Err(13));
-        let short = |value| Where::RrtShort { dimension: 0, value };
-        let long = |value| Where::RrtLong { dimension: 0, value };
-        assert_eq!(section_units(&rrt, short(0), 0), Ok(vec![84, 101, 97]));
-        assert_eq!(section_units(&rrt, long(0), 0), Err(13));
-        assert_eq!(section_units(&rrt, short(1), 0), Err(13));
-        assert_eq!(section_units(&rrt, long(1), 0), Ok(vec![84, 101, 97]));
-        assert_eq!(section_units(&rrt, long(2), 0), Err(13));
     }
 }
