@@ -2,7 +2,7 @@
 """Holds include/guide.h to the sources: fails where a call, its parameters or their order, the layout of a struct, or a refusal's number differs.
 
 The C side is what the compiler makes of the header: sizes and offsets are asked of gcc. The other side is the text of the crates
-`guide`, `lent` and `refusal`.
+`guide`, `lent`, `lent_memory`, `shelf_state` and `refusal`.
 """
 import os
 import re
@@ -123,7 +123,7 @@ def main():
         if kind != "guide_watch" and re.search(r"\b(?!uint32_t\b|guide_part\b)\w+ \w+[^;]*;", body):
             failed("%s has another field than numbers of 32 bits" % kind)
     structs = {}
-    for path in (("lent", "records.rt"), ("shelf_state", "records.rt")):
+    for path in (("lent_memory", "records.rt"), ("shelf_state", "records.rt")):
         for name, body in re.findall(r"pub struct (\w+) \{(.*?)\n\}", text_of("crates", path[0], "src", path[1]), flags=re.S):
             structs.setdefault(name, re.findall(r"pub (\w+): (\w+),", body))
     size, _, fields = layout("LentWatch", structs)

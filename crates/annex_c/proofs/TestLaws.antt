@@ -10,21 +10,21 @@ use lib.Dec.{T, leb, eqb}
 use lib.ListN.{length, take}
 use lib.Seq.{getD-take}
 use borrow.Author.Tests.{eqb-true, ltb-true}
-use Rattle.annex_c.specs.Codes.{Code, code, Bits, more, Reading, symbol, early, begins, first, rowsOf, both, escapeAlone, meant, printed}
+use Rattle.annex_c.specs.Codes.{Code, code, Bits, more, Reading, symbol, early, begins, firstCode, codesOf, bothHold, escapeAlone, meant, printed}
 use Rattle.annex_c.specs.Tree.{tree, nodes, child, walk, walked}
 use Rattle.annex_c.specs.Test.{goOn, by, endsFor, agrees, equal, pair155, priorAgrees, priorsAgree, tableAgrees}
-use Rattle.annex_c.specs.Meaning.{Sound, Means}
+use Rattle.annex_c.specs.Meaning.{SoundReading, Means}
 
 untrue : false ≡ true → ⊥
 untrue e = subst T (sym e) tt
 
-both-left : (a b : Bool) → both a b ≡ true → a ≡ true
-unfolding both
+both-left : (a b : Bool) → bothHold a b ≡ true → a ≡ true
+unfolding bothHold
 both-left true b e = refl
 both-left false b e = e
 
-both-right : (a b : Bool) → both a b ≡ true → b ≡ true
-unfolding both
+both-right : (a b : Bool) → bothHold a b ≡ true → b ≡ true
+unfolding bothHold
 both-right true b e = e
 both-right false b e = absurd (untrue e)
 
@@ -36,27 +36,27 @@ equal-true false true e = absurd (untrue e)
 equal-true false false e = refl
 
 -- rows that all go on by a bit: with no bits none is read, and with bits those are read that go on by the first
-first-none : (rows : List Code) → goOn rows ≡ true → first rows [] ≡ early
-unfolding goOn first begins
+first-none : (rows : List Code) → goOn rows ≡ true → firstCode rows [] ≡ early
+unfolding goOn firstCode begins
 first-none [] e = refl
 first-none (code p s [] ∷ rows) e = absurd (untrue e)
 first-none (code p s (c ∷ cs) ∷ rows) e = first-none rows e
 
-first-row : (p s : ℕ) (cs bs : List ℕ) (rest : List Code) (other : Reading) → other ≡ first rest bs → (x : Bool)
-    → _≡_ {A = Reading} (elim x [ true ↦ begins s cs bs other | false ↦ other ]) (first (elim x [ true ↦ code p s cs ∷ rest | false ↦ rest ]) bs)
-unfolding first
+first-row : (p s : ℕ) (cs bs : List ℕ) (rest : List Code) (other : Reading) → other ≡ firstCode rest bs → (x : Bool)
+    → _≡_ {A = Reading} (elim x [ true ↦ begins s cs bs other | false ↦ other ]) (firstCode (elim x [ true ↦ code p s cs ∷ rest | false ↦ rest ]) bs)
+unfolding firstCode
 first-row p s cs bs rest other e true = ap (begins s cs bs) e
 first-row p s cs bs rest other e false = e
 
-first-by : (rows : List Code) (b : ℕ) (bs : List ℕ) → goOn rows ≡ true → first rows (b ∷ bs) ≡ first (by b rows) bs
-unfolding goOn first begins by
+first-by : (rows : List Code) (b : ℕ) (bs : List ℕ) → goOn rows ≡ true → firstCode rows (b ∷ bs) ≡ firstCode (by b rows) bs
+unfolding goOn firstCode begins by
 first-by [] b bs e = refl
 first-by (code p s [] ∷ rows) b bs e = absurd (untrue e)
-first-by (code p s (c ∷ cs) ∷ rows) b bs e = first-row p s cs bs (by b rows) (first rows (b ∷ bs)) (first-by rows b bs e) (eqb c b)
+first-by (code p s (c ∷ cs) ∷ rows) b bs e = first-row p s cs bs (by b rows) (firstCode rows (b ∷ bs)) (first-by rows b bs e) (eqb c b)
 
 -- the one row that ends here
-first-ends : (s : ℕ) (rows : List Code) (bs : List ℕ) → endsFor s rows ≡ true → (symbol s bs ≡ first rows bs) × (s < 128)
-unfolding endsFor first begins
+first-ends : (s : ℕ) (rows : List Code) (bs : List ℕ) → endsFor s rows ≡ true → (symbol s bs ≡ firstCode rows bs) × (s < 128)
+unfolding endsFor firstCode begins
 first-ends s [] bs e = absurd (untrue e)
 first-ends s (code p r [] ∷ []) bs e = (ap (λ (x : ℕ). symbol x bs) (sym (eqb-true r s (both-left _ _ e))), ltb-true s 128 (both-right _ _ e))
 first-ends s (code p r [] ∷ row ∷ rows) bs e = absurd (untrue e)
@@ -65,8 +65,8 @@ first-ends s (code p r (c ∷ cs) ∷ rows) bs e = absurd (untrue e)
 -- what is shown of a walk from node n of a tree u of m nodes: the rows say what it reads, it is sound, it stays inside, and k
 -- bits are enough
 record Right (k m : ℕ) (u : List ℕ) (n : ℕ) (rows : List Code) (bs : List ℕ) : Type 0 where
-  pub same : walk u n bs ≡ first rows bs
-  pub sound : Sound (walk u n bs)
+  pub same : walk u n bs ≡ firstCode rows bs
+  pub sound : SoundReading (walk u n bs)
   pub inside : walk (take (2 * m) u) n bs ≡ walk u n bs
   pub ends : k ≤ length bs → walk u n bs ≡ early → ⊥
 
@@ -89,8 +89,8 @@ walk-bit u n b bs = refl
 
 -- the same, of what a walk reads at a child
 record RightBelow (k m : ℕ) (u : List ℕ) (v : ℕ) (x : Bool) (rows : List Code) (bs : List ℕ) : Type 0 where
-  pub same : by-child u v bs x ≡ first rows bs
-  pub sound : Sound (by-child u v bs x)
+  pub same : by-child u v bs x ≡ firstCode rows bs
+  pub sound : SoundReading (by-child u v bs x)
   pub inside : by-child (take (2 * m) u) v bs x ≡ by-child u v bs x
   pub ends : k ≤ length bs → by-child u v bs x ≡ early → ⊥
 
@@ -138,13 +138,13 @@ node-right (suc k) m u n rows (b ∷ bs) e (more l h) =
 
 module _ (k : ℕ) (t : List ℕ) (list : List Code) where
   abbrev PriorRight : ℕ → Type 0
-  PriorRight p = (pair155 (tree t p) ≡ escapeAlone (rowsOf list p)) ×
-      ((bs : List ℕ) → Bits bs → Right k (nodes t p) (tree t p) 0 (meant p (rowsOf list p)) bs)
+  PriorRight p = (pair155 (tree t p) ≡ escapeAlone (codesOf list p)) ×
+      ((bs : List ℕ) → Bits bs → Right k (nodes t p) (tree t p) 0 (meant p (codesOf list p)) bs)
 
   prior-right : (p : ℕ) → priorAgrees k t list p ≡ true → PriorRight p
   unfolding priorAgrees
   prior-right p a =
-      (equal-true _ _ (both-left _ _ a), λ bs h. node-right k (nodes t p) (tree t p) 0 (meant p (rowsOf list p)) bs (both-right _ _ a) h)
+      (equal-true _ _ (both-left _ _ a), λ bs h. node-right k (nodes t p) (tree t p) 0 (meant p (codesOf list p)) bs (both-right _ _ a) h)
 
   priors-right : (n p : ℕ) → priorsAgree k t list n ≡ true → p < n → PriorRight p
   unfolding priorsAgree

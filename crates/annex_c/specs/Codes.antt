@@ -26,24 +26,24 @@ begins s (c ∷ cs) [] other = other
 begins s (c ∷ cs) (b ∷ bs) other = elim (eqb c b) [ true ↦ begins s cs bs other | false ↦ other ]
 
 -- the first symbol of these rows whose code begins the bits
-unfoldable pub first : List Code → List ℕ → Reading
-first [] bs = early
-first (code p s c ∷ rows) bs = begins s c bs (first rows bs)
+unfoldable pub firstCode : List Code → List ℕ → Reading
+firstCode [] bs = early
+firstCode (code p s c ∷ rows) bs = begins s c bs (firstCode rows bs)
 
 -- the rows of the prior symbol p
-unfoldable pub rowsOf : List Code → ℕ → List Code
-rowsOf [] p = []
-rowsOf (code q s c ∷ rows) p = elim (eqb q p) [ true ↦ code q s c ∷ rowsOf rows p | false ↦ rowsOf rows p ]
+unfoldable pub codesOf : List Code → ℕ → List Code
+codesOf [] p = []
+codesOf (code q s c ∷ rows) p = elim (eqb q p) [ true ↦ code q s c ∷ codesOf rows p | false ↦ codesOf rows p ]
 
-unfoldable pub both : Bool → Bool → Bool
-both true b = b
-both false b = false
+unfoldable pub bothHold : Bool → Bool → Bool
+bothHold true b = b
+bothHold false b = false
 
 -- only the escape is printed, with the code 1
 unfoldable pub escapeAlone : List Code → Bool
 escapeAlone [] = false
 escapeAlone (code p s [] ∷ rows) = false
-escapeAlone (code p s (c ∷ []) ∷ []) = both (eqb s 27) (eqb c 1)
+escapeAlone (code p s (c ∷ []) ∷ []) = bothHold (eqb s 27) (eqb c 1)
 escapeAlone (code p s (c ∷ []) ∷ row ∷ rows) = false
 escapeAlone (code p s (c ∷ d ∷ cs) ∷ rows) = false
 
@@ -54,4 +54,4 @@ meant p rows = elim (escapeAlone rows) [ true ↦ code p 27 (0 ∷ []) ∷ rows 
 
 -- one coded symbol after the prior symbol p, by the printed list
 unfoldable pub printed : List Code → ℕ → List ℕ → Reading
-printed list p bs = first (meant p (rowsOf list p)) bs
+printed list p bs = firstCode (meant p (codesOf list p)) bs

@@ -1,6 +1,6 @@
 -- Laws of the walks' combinators: nobody above unfolds what has a law here.
 use Prim.Native.Nat.{ℕ, zero, suc, _+_, _-_, _*_, _/_, _≤_, _<_}
-use mathlib.Core.Path.{_≡_, refl, sym, _∙_, subst}
+use mathlib.Core.Path.{_≡_, refl, sym, ap, _∙_, subst}
 use mathlib.Core.List.{List, [], _∷_}
 use mathlib.Core.Bool.{Bool, true, false}
 use native.Mathlib.Numerals.{sub-one}
@@ -10,7 +10,9 @@ use borrow.Author.Tests.{leb-true, eqb-true, le-leb, lt-leb, eq-eqb}
 use Rattle.bytes_at.specs.declared.Walk.{Walk}
 use Rattle.bytes_at.specs.declared.Walk.the-variants.{To, Bad}
 use Rattle.logic.specs.Choices.{pick}
-use Rattle.bytes_at.specs.Walks.{skipTo, bitsTo, then, many, ends, Stands}
+use Rattle.refusal.specs.Outcomes.{refused, result}
+use Rattle.refusal.proofs.OutcomeLaws.{not-both}
+use Rattle.bytes_at.specs.Walks.{skipTo, bitsTo, then, many, ends, standing, Stands}
 
 -- ---- walks that stand, and walks that do not
 pub to-is : (a b : ℕ) → To a ≡ To b → b ≡ a
@@ -18,6 +20,20 @@ to-is a b e = cc
 
 pub never : {A : Type 0} (x b : ℕ) → Bad x ≡ To b → A
 never x b e = let z : _≡_ {A = ℕ} 0 1 = cc in absurd (omega arith)
+
+-- what is answered for a walk
+pub standing-to : (w : Walk) (b : ℕ) → w ≡ To b → result b ≡ standing w
+unfolding standing
+standing-to w b e = rw e
+
+pub standing-bad : (w : Walk) (x : ℕ) → w ≡ Bad x → refused 9 ≡ standing w
+unfolding standing
+standing-bad w x e = rw e
+
+pub standing-is : (w : Walk) (a : ℕ) → standing w ≡ result a → w ≡ To a
+unfolding standing
+standing-is (To b) a e = let q : b ≡ a = cc in ap To q
+standing-is (Bad x) a e = not-both 9 a e
 
 -- what a call's result was found to be, its meaning is
 pub goes : {A : Type 0} {w v x : A} → w ≡ v → w ≡ x → v ≡ x

@@ -4,6 +4,7 @@ use Prim.Native.Nat.{ℕ, zero, suc, _+_, _-_, _*_, _/_}
 use mathlib.Core.Path.{_≡_}
 use mathlib.Core.List.{List, [], _∷_}
 use lib.Dec.{eqb, leb}
+use Rattle.refusal.specs.Outcomes.{Outcome, refused, result}
 use Rattle.bytes_at.specs.declared.Walk.{Walk}
 use Rattle.bytes_at.specs.declared.Walk.the-variants.{To, Bad}
 use Rattle.logic.specs.Choices.{pick}
@@ -36,6 +37,11 @@ many p (suc n) at = then (p at) (many p n)
 -- no byte is left over: to blame is the first that is
 unfoldable pub ends : ℕ → ℕ → Walk
 ends end at = pick (eqb at end) (To at) (Bad at)
+
+-- where a walk stands, or the refusal of one that does not
+unfoldable pub standing : Walk → Outcome ℕ
+standing (To a) = result a
+standing (Bad x) = refused 9
 
 -- a walk that stands
 abbrev pub Stands : Walk → Type 0

@@ -86,5 +86,6 @@ channelFormat =
     })
     (λ x. refl) (λ y. refl)
 
+-- the same, shut, for the walk that the code is held to (law `same-walk` of `tvct`)
 unfoldable pub channel : Format One
 channel = channelFormat

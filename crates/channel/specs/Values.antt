@@ -1,4 +1,4 @@
--- What is answered for a channel of the format, where its encoding lies at a.
+-- SCOPE 2.2: what is answered for a channel of the format, where its encoding lies at a.
 use Prim.Native.Nat.{ℕ, _+_}
 use mathlib.Core.Path.{_≡_}
 use mathlib.Core.List.{List, _++_}

@@ -11,7 +11,7 @@ use lib.Seq.{drop-cons, drop-drop, take-add, length-take-le}
 use lib.Pow.{pow-pos, mod-pow-add}
 use lib.Bits.{bitXor, xor-lt, xor-shifted}
 use Rattle.checksum.specs.Register.{registerFrom, fourBytes}
-use Rattle.checksum.specs.Ahead.{StandsFor, After, End}
+use Rattle.checksum.specs.Ahead.{StandsFor, StandsAfter, End}
 use Rattle.checksum.proofs.Xor.{xor-assoc, xor-first}
 use Rattle.checksum.proofs.Steps.{zeros, zeros-xor, zeros-zeros}
 use Rattle.checksum.proofs.Bytes.{registerFrom-append, apart}
@@ -147,7 +147,7 @@ one-left at b r s h less ends q p =
 pub block-in : (n at r : ℕ) (s : List ℕ) → registerFrom (registerFrom r (take at s)) (take n (drop at s)) ≡ registerFrom r (take (at + n) s)
 block-in n at r s = sym (ap (registerFrom r) (take-add at n s) ∙ registerFrom-append r (take at s) (take n (drop at s)))
 
-pub took : (n at a b b' i r : ℕ) (f s : List ℕ) → take n (drop at s) ≡ f → After f a 8 b' → b ≡ b' → i ≡ at + n → End (drop i s) b r → End (drop at s) a r
+pub took : (n at a b b' i r : ℕ) (f s : List ℕ) → take n (drop at s) ≡ f → StandsAfter f a 8 b' → b ≡ b' → i ≡ at + n → End (drop i s) b r → End (drop at s) a r
 took n at a b b' i r f s bytes more e k ends q h =
     let p = registerFrom q f in
     ends p (subst (StandsFor (zeros 8 p)) (sym e) (more q h)) ∙ ap (registerFrom p) (ap (λ (j : ℕ). drop j s) k ∙ sym (drop-drop n at s))

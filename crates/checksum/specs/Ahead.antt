@@ -14,8 +14,8 @@ abbrev pub StandsFor : ℕ → ℕ → Type 0
 StandsFor u a = (a < 2 ^ 40) × (rest a ≡ u)
 
 -- where a stands for a register after eight bits 0, b stands for it after the bytes s and n bits 0
-abbrev pub After : List ℕ → ℕ → ℕ → ℕ → Type 0
-After s a n b = (q : ℕ) → StandsFor (bitsIn 8 0 q) a → StandsFor (bitsIn n 0 (registerFrom q s)) b
+abbrev pub StandsAfter : List ℕ → ℕ → ℕ → ℕ → Type 0
+StandsAfter s a n b = (q : ℕ) → StandsFor (bitsIn 8 0 q) a → StandsFor (bitsIn n 0 (registerFrom q s)) b
 
 -- and r is it, after the bytes s
 abbrev pub End : List ℕ → ℕ → ℕ → Type 0

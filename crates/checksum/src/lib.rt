@@ -10,7 +10,7 @@ ghost use Prim.Native.Nat.{_+_, _^_, _≤_, _<_};
 ghost use lib.Dec.{eqb};
 ghost use lib.ListN.{length, take, drop};
 ghost use Rattle.checksum.specs.Register.{bitIn, bitsIn, registerFrom, register, fourBytes};
-ghost use Rattle.checksum.specs.Ahead.{After, End};
+ghost use Rattle.checksum.specs.Ahead.{StandsAfter, End};
 
 mod tables;
 
@@ -54,14 +54,14 @@ fn four(s: &[u8], at: usize) -> u64
 
 // From what stands for the register eight bits ahead, what stands for it after the byte `x`, as far ahead.
 fn one_more(a: u64, x: u8) -> u64
-    ensures { λ b. ⌜ After (x ∷ []) a 8 b ⌝ }
+    ensures { λ b. ⌜ StandsAfter (x ∷ []) a 8 b ⌝ }
 {
     tables::byte_40((a >> 32) ^ (x as u64)) ^ ((a % 0x1_0000_0000) << 8)
 }
 
 // The same after two bytes.
 fn two_more(a: u64, x: u8, y: u8) -> u64
-    ensures { λ b. ⌜ After (x ∷ y ∷ []) a 8 b ⌝ }
+    ensures { λ b. ⌜ StandsAfter (x ∷ y ∷ []) a 8 b ⌝ }
 {
     tables::byte_48((a >> 32) ^ (x as u64))
         ^ (tables::byte_40((a >> 24) ^ (y as u64)) ^ ((a % 0x100_0000) << 16))
@@ -70,7 +70,7 @@ fn two_more(a: u64, x: u8, y: u8) -> u64
 // The same after four bytes of `s`.
 fn four_more(a: u64, s: &[u8], at: usize) -> u64
     requires { ⌜ at + 4 ≤ length (now s) ⌝ }
-    ensures { λ b. ⌜ After (take 4 (drop at (now (s .entry)))) a 8 b ⌝ }
+    ensures { λ b. ⌜ StandsAfter (take 4 (drop at (now (s .entry)))) a 8 b ⌝ }
 {
     tables::word_40((a >> 8) ^ four(s, at)) ^ ((a % 256) << 32)
 }
@@ -78,7 +78,7 @@ fn four_more(a: u64, s: &[u8], at: usize) -> u64
 // The same after eight.
 fn eight_more(a: u64, s: &[u8], at: usize) -> u64
     requires { ⌜ at + 8 ≤ length (now s) ⌝ }
-    ensures { λ b. ⌜ After (take 8 (drop at (now (s .entry)))) a 8 b ⌝ }
+    ensures { λ b. ⌜ StandsAfter (take 8 (drop at (now (s .entry)))) a 8 b ⌝ }
 {
     tables::word_72((a >> 8) ^ four(s, at)) ^ tables::word_40(((a % 256) << 24) ^ four(s, at + 4))
 }
@@ -86,7 +86,7 @@ fn eight_more(a: u64, s: &[u8], at: usize) -> u64
 // The same after eight and 64 bits 0.
 fn eight_far(a: u64, s: &[u8], at: usize) -> u64
     requires { ⌜ at + 8 ≤ length (now s) ⌝ }
-    ensures { λ b. ⌜ After (take 8 (drop at (now (s .entry)))) a 72 b ⌝ }
+    ensures { λ b. ⌜ StandsAfter (take 8 (drop at (now (s .entry)))) a 72 b ⌝ }
 {
     tables::word_136((a >> 8) ^ four(s, at)) ^ tables::word_104(((a % 256) << 24) ^ four(s, at + 4))
 }
@@ -94,7 +94,7 @@ fn eight_far(a: u64, s: &[u8], at: usize) -> u64
 // The same after sixteen: the second eight need not wait for the first.
 fn sixteen_more(a: u64, s: &[u8], at: usize) -> u64
     requires { ⌜ at + 16 ≤ length (now s) ⌝ }
-    ensures { λ b. ⌜ After (take 16 (drop at (now (s .entry)))) a 8 b ⌝ }
+    ensures { λ b. ⌜ StandsAfter (take 16 (drop at (now (s .entry)))) a 8 b ⌝ }
 {
     eight_far(a, s, at) ^ eight_more(0, s, at + 8)
 }

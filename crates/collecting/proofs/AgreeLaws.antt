@@ -10,18 +10,18 @@ use Rattle.lent_laws.proofs.StepLaws.{lent-step, refused-keeps}
 use Rattle.collecting.proofs.FirstHalf.{first-half}
 use Rattle.collecting.proofs.SecondHalf.{from-empty, second-half}
 use Rattle.collecting.proofs.PromisedLaws.{places-promised}
-use Rattle.collecting.specs.Collecting.{AgreeingCollect, Agrees, Allowed, Build, Complete, Entry, Heard, LentHolds, NoneRefused, StartsEmpty, Stretch, Table, ToldBy, after, and-then, end, fetch, heard, lentBuild, none-left, ours, quotasClosed, quotasOpened, recorded, status, then}
+use Rattle.collecting.specs.Collecting.{AgreeingCollect, Agrees, Allowed, Build, Complete, Exchange, Heard, LentHolds, NoneRefused, StartsEmpty, Stretch, Table, ToldBy, stateAfter, and-then, end, fetch, heard, lentBuild, none-left, ours, quotasClosed, quotasOpened, recorded, status, then}
 
 module _ (B : Build) (g : Agrees B) where
-  after-is : (x : B .Memory) (ts : List Turn) → B .means (after B x ts) ≡ after ours (B .means x) ts
-  unfolding after
+  after-is : (x : B .Memory) (ts : List Turn) → B .means (stateAfter B x ts) ≡ stateAfter ours (B .means x) ts
+  unfolding stateAfter
   after-is x [] = refl
-  after-is x (t ∷ ts) = after-is (B .turn x t .next) ts ∙ ap (λ (y : State). after ours y ts) (g .next-is x t)
+  after-is x (t ∷ ts) = after-is (B .turn x t .next) ts ∙ ap (λ (y : State). stateAfter ours y ts) (g .next-is x t)
 
   recorded-is : (x : B .Memory) (ts : List Turn) → recorded B x ts ≡ recorded ours (B .means x) ts
   unfolding recorded
   recorded-is x [] = refl
-  recorded-is x (t ∷ ts) = ap₂ (λ (a : Answer) (es : List Entry). record { call = t .call; answer = a } ∷ es) (g .answer-is x t)
+  recorded-is x (t ∷ ts) = ap₂ (λ (a : Answer) (es : List Exchange). record { call = t .call; answer = a } ∷ es) (g .answer-is x t)
       (recorded-is (B .turn x t .next) ts ∙ ap (λ (y : State). recorded ours y ts) (g .next-is x t))
 
   empty-is : (x : B .Memory) → StartsEmpty B x → StartsEmpty ours (B .means x)
@@ -32,10 +32,10 @@ module _ (B : Build) (g : Agrees B) where
 
   -- what is told of the shelf that the memory means is told of the memory
   told-after : (x : B .Memory) (k : Asked) (ts : List Turn) (hs : Option (List Heard))
-      → ToldBy ours (after ours (B .means x) ts) k (heard k hs (recorded ours (B .means x) ts)) → ToldBy B (after B x ts) k (heard k hs (recorded B x ts))
-  told-after x k ts hs t = told-is (after B x ts) k (heard k hs (recorded B x ts))
+      → ToldBy ours (stateAfter ours (B .means x) ts) k (heard k hs (recorded ours (B .means x) ts)) → ToldBy B (stateAfter B x ts) k (heard k hs (recorded B x ts))
+  told-after x k ts hs t = told-is (stateAfter B x ts) k (heard k hs (recorded B x ts))
       (subst (λ (y : State). ToldBy ours y k (heard k hs (recorded B x ts))) (sym (after-is x ts))
-      (subst (λ (es : List Entry). ToldBy ours (after ours (B .means x) ts) k (heard k hs es)) (sym (recorded-is x ts)) t))
+      (subst (λ (es : List Exchange). ToldBy ours (stateAfter ours (B .means x) ts) k (heard k hs es)) (sym (recorded-is x ts)) t))
 
   module _ {k : Asked} (table : Table k) where
     allowed-is : (x : B .Memory) (t : Turn) → Allowed B table x t → Allowed ours table (B .means x) t
@@ -64,11 +64,11 @@ pub agreeing-collect : AgreeingCollect
 agreeing-collect B g = record {
   first-half = λ x k v table ts ok is room own st made.
       let f = first-half (B .means x) k v table ts ok is room own (stretch-is B g table x ts st) made in
-      (none-is B g table x ts (f .0), complete-is B g table (after B x ts) (subst (Complete ours table) (sym (after-is B g x ts)) (f .1)));
+      (none-is B g table x ts (f .0), complete-is B g table (stateAfter B x ts) (subst (Complete ours table) (sym (after-is B g x ts)) (f .1)));
   second-half = λ x k ts ok silent own. told-after B g x k ts _ (second-half (B .means x) k ts ok silent own);
   from-empty = λ x k ts e own. told-after B g x k ts _ (from-empty (B .means x) k ts (empty-is B g x e) own);
   places-promised = λ x ts e own.
-      ap₂ (λ (y : State) (es : List Entry). promised (y .shelf) + quotasClosed (λ k. 0) es) (after-is B g x ts) (recorded-is B g x ts)
+      ap₂ (λ (y : State) (es : List Exchange). promised (y .shelf) + quotasClosed (λ k. 0) es) (after-is B g x ts) (recorded-is B g x ts)
       ∙ places-promised (B .means x) ts (empty-is B g x e) own
       ∙ ap quotasOpened (sym (recorded-is B g x ts));
 }

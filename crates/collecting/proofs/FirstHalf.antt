@@ -12,7 +12,7 @@ use borrow.Author.Tests.{eq-eqb, eqb-true, le-leb, ne-eqb}
 use Rattle.logic.specs.Choices.{pick}
 use Rattle.logic.specs.Loops.{_&_, count}
 use Rattle.logic.proofs.LoopLaws.{all-i, and-i, and-left, and-right, both, true-false}
-use Rattle.refusal.specs.Outcomes.{Outcome, refused, result}
+use Rattle.refusal.specs.Outcomes.{Outcome, refused, result, orRefuse}
 use Rattle.section.specs.declared.header.Header.{Header}
 use Rattle.shelf_state.specs.Records.{sameKey, watched}
 use Rattle.shelf_state.specs.declared.records.Asked.{Asked}
@@ -28,7 +28,7 @@ use Rattle.shelf_laws.proofs.OpenLaws.{opening-passed}
 use Rattle.shelf_laws.proofs.StepLaws.{step-law}
 use Rattle.shelf_laws.proofs.ViewLaws.{none-above, pid-small, same-some, viewed}
 use Rattle.collecting.proofs.TurnLaws.{count-says, own-next, says-bytes, says-delivered, says-status}
-use Rattle.collecting.specs.Collecting.{Allowed, Complete, FirstHalf, Made, NoneRefused, OneOf, Own, Stretch, Table, after, and-then, deliver, end, fetch, here, none-left, one-more, ours, then, there}
+use Rattle.collecting.specs.Collecting.{Allowed, Complete, FirstHalf, Made, NoneRefused, OneOf, Own, Stretch, Table, stateAfter, and-then, deliver, end, fetch, here, none-left, one-more, ours, then, there}
 
 -- ---- an open watch's key is not opened again
 open-refused : (s : Shelf) (area : ℕ) (a : Asked) (q : ℕ) → watched s a ≡ true → isResult (opened s area a q .outcome) ≡ false
@@ -138,11 +138,11 @@ module _ (k : Asked) (table : Table k) where
       turn = deliver (k .pid) (table .bytes m)
 
       current : currentOn (k .pid) (table .bytes m) ≡ result (head m l)
-      unfolding currentOn
+      unfolding currentOn orRefuse
       current = rw (le-leb (k .pid) 8191 (pid-small x k v ok is), table .sections m l .sound, ne-eqb (head m l .current) 0 (table .sections m l .current))
 
       accepts : step x turn .answer ≡ did (result tt)
-      unfolding deliverySays
+      unfolding deliverySays orRefuse
       accepts =
           says-delivered x (k .pid) (table .bytes m) ok
           ∙ rw (table .sections m l .key, current, is, le-leb (head m l .last + 1) (v .quota) (omega (arith, room, table .sections m l .last-is)))
@@ -170,13 +170,13 @@ module _ (k : Asked) (table : Table k) where
 
   record Ends (v : View) (x : State) (ts : List Turn) : Type 0 where
     finally : View
-    keeps : Obeys (after ours x ts)
-    view-is : viewIn (after ours x ts) k ≡ some finally
+    keeps : Obeys (stateAfter ours x ts)
+    view-is : viewIn (stateAfter ours x ts) k ≡ some finally
     gets : (m : ℕ) → m ≤ table .last → Made (deliver (k .pid) (table .bytes m)) ts ⊎ Got m v → Got m finally
     none-refused : NoneRefused ours table x ts
 
   ends : (x : State) (v : View) (ts : List Turn) → Obeys x → viewIn x k ≡ some v → table .last + 1 ≤ v .quota → Own (length (x .area)) ts → Stretch ours table x ts → Ends v x ts
-  unfolding after
+  unfolding stateAfter
   ends x v [] ok is room own end = record {
     finally = v;
     keeps = ok;
@@ -225,4 +225,4 @@ module _ (k : Asked) (table : Table k) where
 pub first-half : FirstHalf ours
 first-half x k v table ts ok is room own st made =
     let e = ends k table x v ts ok is (omega (arith, room)) own st in
-    (e .none-refused, completes k table (after ours x ts) (e .finally) (e .keeps) (e .view-is) (λ m l. e .gets m l (inl (made m l))))
+    (e .none-refused, completes k table (stateAfter ours x ts) (e .finally) (e .keeps) (e .view-is) (λ m l. e .gets m l (inl (made m l))))

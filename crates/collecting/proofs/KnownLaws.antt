@@ -8,12 +8,12 @@ use lib.ListN.{length}
 use borrow.Author.Tests.{le-leb, ne-eqb}
 use Rattle.logic.specs.Choices.{pick}
 use Rattle.logic.specs.Loops.{_&_}
-use Rattle.refusal.specs.Outcomes.{refused, result}
+use Rattle.refusal.specs.Outcomes.{refused, result, orRefuse}
 use Rattle.section.specs.declared.header.Header.{Header}
 use Rattle.shelf_state.specs.Records.{sameKey}
 use Rattle.shelf_state.specs.Rules.{inRange}
 use Rattle.shelf_state.specs.declared.records.Asked.{Asked}
-use Rattle.shelf.specs.Calls.{opened, openedInRange, orRefuse}
+use Rattle.shelf.specs.Calls.{opened, openedInRange, orRefuseWith}
 use Rattle.shelf.specs.Steps.{Answer, State, Turn, accepted, did, gave, other, ownOr14, step, stepOn, told, viewIn}
 use Rattle.shelf.specs.Views.{Call, View, asks, closes, currentOn, delivers, deliverySays, fetches, fetchingSays, hearsIn, nextView, opens, statusSays}
 use Rattle.shelf_laws.specs.Laws.{Obeys, Steps}
@@ -21,7 +21,7 @@ use Rattle.shelf_laws.proofs.StepLaws.{step-law}
 use Rattle.shelf_laws.proofs.ViewLaws.{viewed}
 use Rattle.collecting.proofs.StretchLaws.{lent-other}
 use Rattle.collecting.proofs.TurnLaws.{says-bytes, says-delivered, says-status}
-use Rattle.collecting.specs.Collecting.{Section, deliver, fetch, ours, recorded, status}
+use Rattle.collecting.specs.Collecting.{TableSection, deliver, fetch, ours, recorded, status}
 use Rattle.collecting.specs.Samples.{answersIn, opening}
 use Rattle.collecting.specs.Useless.{refusal}
 
@@ -83,18 +83,18 @@ module _ {n : ℕ} {f : Asked → Option View} where
 
     -- an open watch's key
     pub refuses-19 : (k : Asked) (q : ℕ) (v : View) → inRange k q ≡ true → f k ≡ some v → Goes n f (opening k q) (did (refused 19)) f x
-    unfolding step stepOn opened openedInRange orRefuse
+    unfolding step stepOn opened openedInRange orRefuseWith
     refuses-19 k q v e w = refuses (opening k q) (did (refused 19)) refl (rw (i .ok, e, viewed (x .shelf) (x .area) k v (i .views k ∙ w))) refl
 
     -- a delivery that is refused before a watch is asked for
     pub refuses-before : (pid m : ℕ) (b : List ℕ) → currentOn pid b ≡ refused m → Goes n f (deliver pid b) (did (refused m)) f x
-    unfolding deliverySays
+    unfolding deliverySays orRefuse
     refuses-before pid m b e = refuses (deliver pid b) (did (refused m)) refl (says-delivered x pid b (i .ok) ∙ ap did (rw e)) refl
 
     -- ---- a section that is sound and current
-    module _ {k : Asked} {version last number : ℕ} {b : List ℕ} (s : Section k version last number b) (pid : k .pid ≤ 8191) where
+    module _ {k : Asked} {version last number : ℕ} {b : List ℕ} (s : TableSection k version last number b) (pid : k .pid ≤ 8191) where
       says : step x (deliver (k .pid) b) .answer ≡ did (deliverySays (f k) (result (s .head)))
-      unfolding currentOn
+      unfolding currentOn orRefuse
       says =
           says-delivered x (k .pid) b (i .ok)
           ∙ rw (s .key, i .views k, le-leb (k .pid) 8191 pid, s .sound, ne-eqb (s .head .current) 0 (s .current))

@@ -18,7 +18,7 @@ use Rattle.shelf.specs.Views.{Call, View, asks, closes, delivers, fetches, fres
 use Rattle.shelf_laws.specs.Laws.{Obeys, Steps, quotaClosed, quotaIn}
 use Rattle.shelf_laws.proofs.StepLaws.{step-law}
 use Rattle.collecting.proofs.TurnLaws.{empty-now, own-next}
-use Rattle.collecting.specs.Collecting.{Own, PlacesPromised, after, one-more, ours, quotaNext, quotasClosed, quotasOpened, recorded}
+use Rattle.collecting.specs.Collecting.{Own, PlacesPromised, stateAfter, one-more, ours, quotaNext, quotasClosed, quotasOpened, recorded}
 
 -- ---- the quota of a key moves as the record tells
 quota-hears : (v : Option View) (b : List ℕ) (o : Outcome Header) → quotaIn (hearsIn v b o) ≡ quotaIn v
@@ -50,8 +50,8 @@ closed-cong c y f g e = ap (quotaClosed c y) (λ i k. e k i)
 
 -- ---- a stretch, from any state whose quotas are f
 moved : (x : State) (ts : List Turn) (f : Asked → ℕ) → Obeys x → Own (length (x .area)) ts → ((k : Asked) → quotaIn (viewIn x k) ≡ f k)
-    → promised (after ours x ts .shelf) + quotasClosed f (recorded ours x ts) ≡ promised (x .shelf) + quotasOpened (recorded ours x ts)
-unfolding after recorded quotasClosed quotasOpened
+    → promised (stateAfter ours x ts .shelf) + quotasClosed f (recorded ours x ts) ≡ promised (x .shelf) + quotasOpened (recorded ours x ts)
+unfolding stateAfter recorded quotasClosed quotasOpened
 moved x [] f ok own q = refl
 moved x (t ∷ ts) f ok (one-more lent own) q =
     let s : Steps x t = step-law x t ok lent in

@@ -14,21 +14,21 @@ use Rattle.checksum.proofs.Sealing.{sealed-sound}
 use Rattle.bytes_at.specs.Walks.{bitsTo, ends, fieldsTo, many, then}
 use Rattle.kind.specs.Kinds.{kindOf}
 use Rattle.kind.specs.declared.Kind.the-variants.{Eit}
-use Rattle.refusal.specs.Outcomes.{refused, result}
+use Rattle.refusal.specs.Outcomes.{refused, result, orRefuse}
 use Rattle.section.specs.Bodies.{bodyOf}
 use Rattle.section.specs.Headers.{checksumTest, headerBy, headerIn, lengthTests, numberTests, ofKind}
 use Rattle.section.specs.Sections.{bodyTest, sectionBy, verdictBy, withBody}
 use Rattle.shelf_state.specs.Records.{emptyShelf, holdsFor, isOf, sameKey}
 use Rattle.shelf_state.specs.Rules.{inRange, keysDiffer, keysInRange, lastBelowQuota, lengthsFit, noneAboveQuota, noneTwice, obeys, placesOwned, quotaOf, quotasFit, sizesFit, sizesInRange, unheardEmpty, watchable}
 use Rattle.shelf_state.specs.declared.records.Asked.{Asked}
-use Rattle.shelf.specs.Calls.{made, opened, openedInRange, orRefuse}
+use Rattle.shelf.specs.Calls.{made, opened, openedInRange, orRefuseWith}
 use Rattle.shelf.specs.Steps.{did, step, stepOn, viewIn}
-use Rattle.shelf.specs.Views.{View, countOf, currentOf, currentOn, delivers, deliverySays, freshView, hears, judged, keyIn, nextView, put, sameEdition, statusOf}
+use Rattle.shelf.specs.Views.{View, partOrComplete, currentOf, currentOn, delivers, deliverySays, freshView, hears, judged, keyIn, nextView, put, sameEdition, statusOf}
 use Rattle.shelf_laws.proofs.EmptyLaws.{empty-law}
 use Rattle.collecting.proofs.FirstHalf.{first-half}
 use Rattle.collecting.proofs.StretchLaws.{AllPlain, Harmless, all-plain, of-table, other-key, plain, stretch-of, too-many, unsound}
 use Rattle.collecting.proofs.KnownLaws.{Answers, Known, answers-end, answers-next, gives-bytes, goes, hearing, hears-it, refuses-14, refuses-19, refuses-before, refuses-for, tells-status}
-use Rattle.collecting.specs.Collecting.{Complete, Made, NoneRefused, Own, Section, Stretch, Table, after, deliver, here, no-more, one-more, ours, recorded, there}
+use Rattle.collecting.specs.Collecting.{Complete, Made, NoneRefused, Own, TableSection, Stretch, Table, stateAfter, deliver, here, no-more, one-more, ours, recorded, there}
 use Rattle.collecting.specs.Samples.{answers, answersIn, damaged, eit, eitHeader, eitKey, emptyState, fresh, mine, opening, section, start, theirs, turns}
 use Rattle.eit.specs.Format as E
 
@@ -59,7 +59,7 @@ unfolding eit sealed
 eit-key pid source version number last = λ i. record { pid = pid; «table_id» = 0xCB; extension = word source i }
 
 abbrev pub eit-section : (pid source version number last : ℕ) → version < 32 → number ≤ last → last ≤ 255
-    → Section (eitKey pid source) version last number (eit source version number last)
+    → TableSection (eitKey pid source) version last number (eit source version number last)
 eit-section pid source version number last v n l = record {
   head = eitHeader source version number last;
   sound = eit-sound source version number last v n l;
@@ -71,13 +71,13 @@ eit-section pid source version number last v n l = record {
 }
 
 -- the section that the shelf holds at the start; the other watch's; one of a table with a section too many
-abbrev old : Section mine 3 2 1 (eit 7 3 1 2)
+abbrev old : TableSection mine 3 2 1 (eit 7 3 1 2)
 old = eit-section 0x1D00 7 3 1 2 (omega arith) (omega arith) (omega arith)
 
-abbrev their : (version last : ℕ) → version < 32 → last ≤ 255 → Section theirs version last 0 (eit 8 version 0 last)
+abbrev their : (version last : ℕ) → version < 32 → last ≤ 255 → TableSection theirs version last 0 (eit 8 version 0 last)
 their version last v l = eit-section 0x1D01 8 version 0 last v (omega arith) l
 
-abbrev long : Section mine 5 3 0 (eit 7 5 0 3)
+abbrev long : TableSection mine 5 3 0 (eit 7 5 0 3)
 long = eit-section 0x1D00 7 5 0 3 (omega arith) (omega arith) (omega arith)
 
 abbrev pub table : Table mine
@@ -100,16 +100,16 @@ abbrev startViews : Asked → Option View
 startViews = hearing mine (eit 7 3 1 2) (eitHeader 7 3 1 2) freshViews
 
 both-open : (opened (made 5 2 .shelf) room mine 3 .outcome ≡ result tt) × (opened (opened (made 5 2 .shelf) room mine 3 .shelf) room theirs 2 .outcome ≡ result tt)
-unfolding ifEq kindOf _&_ _⇒_ all any sum first sameKey isOf holdsFor emptyShelf quotaOf watchable inRange keysDiffer quotasFit placesOwned noneTwice noneAboveQuota lastBelowQuota unheardEmpty lengthsFit keysInRange sizesInRange sizesFit obeys orRefuse made openedInRange opened
+unfolding ifEq kindOf _&_ _⇒_ all any sum first sameKey isOf holdsFor emptyShelf quotaOf watchable inRange keysDiffer quotasFit placesOwned noneTwice noneAboveQuota lastBelowQuota unheardEmpty lengthsFit keysInRange sizesInRange sizesFit obeys orRefuseWith made openedInRange opened
 both-open = (refl, refl)
 
 module _ (area : List ℕ) (size : length area ≡ room) where
   pub empty-known : Known room noViews (emptyState 5 2 area)
-  unfolding made orRefuse sizesInRange _&_
+  unfolding made orRefuseWith sizesInRange _&_
   empty-known = let e = empty-law 5 2 area refl size in record { ok = e .rules; size = size; views = e .no-view }
 
   pub fresh-known : Known room freshViews (fresh area)
-  unfolding after step stepOn nextView _&_
+  unfolding stateAfter step stepOn nextView _&_
   fresh-known =
       let a = goes (emptyState 5 2 area) (opening mine 3) (did (result tt)) mineViews empty-known refl
       (ap (λ (n : ℕ). did (opened (made 5 2 .shelf) n mine 3 .outcome)) size ∙ ap did (both-open .0)) (λ k. refl) in
@@ -117,12 +117,12 @@ module _ (area : List ℕ) (size : length area ≡ room) where
       (ap (λ (n : ℕ). did (opened (opened (made 5 2 .shelf) n mine 3 .shelf) n theirs 2 .outcome)) size ∙ ap did (both-open .1)) (λ k. refl) .known
 
   pub start-known : Known room startViews (start area)
-  unfolding after deliverySays sameKey _&_
+  unfolding stateAfter deliverySays sameKey _&_ orRefuse
   start-known = hears-it (fresh area) fresh-known old (omega arith) refl .known
 
 -- ---- what each call of the stretch answers
 sample-answers : Answers room startViews turns answers
-unfolding deliverySays sameKey _&_ hears put sameEdition statusOf countOf ifEq sum currentOn inRange watchable kindOf
+unfolding deliverySays sameKey _&_ hears put sameEdition statusOf partOrComplete ifEq sum currentOn inRange watchable kindOf orRefuse
 sample-answers =
     answers-next (λ x i. hears-it x i (table .sections 2 (omega arith)) (omega arith) refl)
     (answers-next (λ x i. refuses-before x i 0x1D00 6 damaged (ap currentOf damaged-refused))
@@ -153,7 +153,7 @@ not-mine : (b : List ℕ) → keyIn 0x1D01 b ≡ mine → ⊥
 not-mine b e = let n = ap (λ (a : Asked). a .pid) e in omega (arith, n)
 
 stretch-plain : AllPlain table 3 turns
-unfolding currentOn
+unfolding currentOn orRefuse
 stretch-plain =
     let its : (m : ℕ) → m ≤ 2 → Harmless table 3 (record { pid = 0x1D00; bytes = section m }) = λ m l. of-table (record { number = m; upto = l; bytes-are = refl }) in
     let of-theirs : (b : List ℕ) → Harmless table 3 (record { pid = 0x1D01; bytes = b }) = λ b. other-key (not-mine b) in
@@ -196,6 +196,6 @@ module _ (area : List ℕ) (size : length area ≡ room) where
   pub sample-answered : answersIn (recorded ours (start area) turns) ≡ answers
   sample-answered = sample-answers .given (start area) (start-known area size)
 
-  pub sample-collected : NoneRefused ours table (start area) turns × Complete ours table (after ours (start area) turns)
+  pub sample-collected : NoneRefused ours table (start area) turns × Complete ours table (stateAfter ours (start area) turns)
   unfolding hears
   sample-collected = first-half (start area) mine old-view table turns (start-known area size .ok) start-view (omega arith) start-own sample-stretch stretch-made

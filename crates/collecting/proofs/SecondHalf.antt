@@ -16,13 +16,13 @@ use Rattle.shelf_state.specs.Records.{sameKey}
 use Rattle.shelf_state.specs.declared.records.Asked.{Asked}
 use Rattle.shelf_state.specs.declared.records.Edition.{Edition}
 use Rattle.shelf.specs.Steps.{State, Turn, accepted, gave, step, told, viewIn}
-use Rattle.shelf.specs.Views.{Call, Kept, View, asks, bytesOr22, closes, countOf, delivers, editionOf, fetches, fetchingSays, freshView, hears, hearsIn, heldIn, isSome, judged, keyIn, nextView, opens, put, sameEdition, statusOf, statusSays}
+use Rattle.shelf.specs.Views.{Call, Kept, View, asks, bytesOr22, closes, partOrComplete, delivers, editionOf, fetches, fetchingSays, freshView, hears, hearsIn, heldIn, isSome, judged, keyIn, nextView, opens, put, sameEdition, statusOf, statusSays}
 use Rattle.shelf.specs.Answers.{complete, part, unheard}
 use Rattle.shelf_laws.specs.Laws.{Obeys, Steps}
 use Rattle.shelf_laws.proofs.StepLaws.{step-law}
 use Rattle.shelf_laws.proofs.ViewLaws.{unheard-empty}
 use Rattle.collecting.proofs.TurnLaws.{count-says, empty-now, own-next, says-bytes, says-status}
-use Rattle.collecting.specs.Collecting.{CompleteOnlyThen, EachAccepted, FromEmpty, Heard, Own, SecondHalf, ToldBy, after, bytesTold, continues, heard, heardNext, heardWith, newest, newestOr22, nothingYet, occurs, one-more, ours, recorded, run, statusTold}
+use Rattle.collecting.specs.Collecting.{CompleteOnlyThen, EachAccepted, FromEmpty, Heard, Own, SecondHalf, ToldBy, stateAfter, bytesTold, continues, heard, heardNext, heardWith, newest, newestOr22, nothingYet, occurs, one-more, ours, recorded, run, statusTold}
 
 -- ---- a view that the sections heard tell
 abbrev EditionIs : List Heard → Edition → Type 0
@@ -98,11 +98,11 @@ bytes-as (some b) = refl
 status-told : (hs : Option (List Heard)) (v : Option View) → Told hs v → statusSays v ≡ statusTold hs
 unfolding statusOf
 status-told none none t = refl
-status-told (some []) (some v) t = ap (λ (c : Bool). result (pick c (countOf (heldIn v) (v .edition .last + 1)) unheard)) (t .edition-is)
+status-told (some []) (some v) t = ap (λ (c : Bool). result (pick c (partOrComplete (heldIn v) (v .edition .last + 1)) unheard)) (t .edition-is)
 status-told (some (d ∷ ds)) (some v) t =
     let n : ℕ = d .head .last + 1 in
     ap (λ (e : Edition). result (statusOf e (count (e .last + 1) (λ m. isSome (v .kept m))))) (t .edition-is)
-    ∙ ap (λ (p : ℕ → Bool). result (countOf (count n p) n)) (λ i m. (ap isSome (t .kept-is m) ∙ some-as (newest m (run (d ∷ ds)))) i)
+    ∙ ap (λ (p : ℕ → Bool). result (partOrComplete (count n p) n)) (λ i m. (ap isSome (t .kept-is m) ∙ some-as (newest m (run (d ∷ ds)))) i)
     ∙ ap result (count-says n (occurs (run (d ∷ ds))))
 
 bytes-told : (hs : Option (List Heard)) (v : Option View) (m : ℕ) → Told hs v → fetchingSays v m ≡ bytesTold hs m
@@ -111,8 +111,8 @@ bytes-told (some ds) (some v) m t = ap bytesOr22 (t .kept-is m) ∙ bytes-as (ne
 
 -- ---- a stretch, from any state that is told
 told-after : (x : State) (k : Asked) (ts : List Turn) (hs : Option (List Heard)) → Obeys x → Own (length (x .area)) ts → Told hs (viewIn x k)
-    → ToldBy ours (after ours x ts) k (heard k hs (recorded ours x ts))
-unfolding after heard recorded
+    → ToldBy ours (stateAfter ours x ts) k (heard k hs (recorded ours x ts))
+unfolding stateAfter heard recorded
 told-after x k [] hs ok own t = record {
   says = says-status x k ok ∙ ap told (status-told hs (viewIn x k) t);
   gives = λ m. says-bytes x k ok m ∙ ap gave (bytes-told hs (viewIn x k) m t);

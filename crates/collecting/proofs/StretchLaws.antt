@@ -7,12 +7,12 @@ use mathlib.Core.Option.{Option, some}
 use lib.ListN.{length}
 use borrow.Author.Tests.{eqb-false, lt-leb}
 use Rattle.logic.proofs.LoopLaws.{isnt, not-e, true-false}
-use Rattle.refusal.specs.Outcomes.{refused, result}
+use Rattle.refusal.specs.Outcomes.{refused, result, orRefuse}
 use Rattle.section.specs.declared.header.Header.{Header}
 use Rattle.shelf_state.specs.Rules.{obeys}
 use Rattle.shelf_state.specs.declared.records.Asked.{Asked}
 use Rattle.shelf_state.proofs.RuleLaws.{rules}
-use Rattle.shelf.specs.Calls.{closed, fetched, opened, orRefuse, statusAfter}
+use Rattle.shelf.specs.Calls.{closed, fetched, opened, orRefuseWith, statusAfter}
 use Rattle.shelf.specs.Delivery.{delivered, delivering}
 use Rattle.shelf.specs.Steps.{Lent, State, Turn, accepted, did, other, own, ownOr14, step, stepOn, viewIn}
 use Rattle.shelf.specs.Views.{Call, Delivery, View, asks, closes, currentOn, delivers, deliverySays, fetches, keyIn, opens}
@@ -30,7 +30,7 @@ module _ (x : State) (l : List ℕ) (ok : Obeys x) (lent : ownOr14 (length (x .a
       (rules (x .shelf) (length l) e .size .area-is ∙ sym (rules (x .shelf) (length (x .area)) ok .size .area-is)))
 
   pub lent-other : (c : Call) → step x (record { call = c; lent = other l }) .answer ≡ refusal c 14
-  unfolding step stepOn opened closed statusAfter fetched delivered delivering orRefuse
+  unfolding step stepOn opened closed statusAfter fetched delivered delivering orRefuseWith
   lent-other (opens o) = rw broken
   lent-other (closes c) = rw broken
   lent-other (asks q) = rw broken
@@ -66,7 +66,7 @@ module _ (k : Asked) (table : Table k) (x : State) (v : View) (ok : Obeys x) (is
       ap accepted (says-delivered x (d .pid) (d .bytes) ok ∙ ap did (ap (λ (w : Option View). deliverySays w (currentOn (d .pid) (d .bytes))) (ap (viewIn x) e ∙ is) ∙ r))
 
   allowed : (t : Turn) → ownOr14 (length (x .area)) (t .lent) ≡ true → Plain table (v .quota) (t .call) → Allowed ours table x t
-  unfolding deliverySays
+  unfolding deliverySays orRefuse
   allowed t lent p = record {
     stays-open = λ c e q. absurd (subst (Plain table (v .quota)) e p q);
     no-other = λ d e q a. one d q (subst (Plain table (v .quota)) e p)

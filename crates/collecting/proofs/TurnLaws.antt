@@ -16,7 +16,7 @@ use Rattle.shelf_state.specs.declared.records.Asked.{Asked}
 use Rattle.shelf_state.specs.declared.records.Shelf.{Shelf}
 use Rattle.shelf.specs.Answers.{complete, part}
 use Rattle.shelf.specs.Steps.{State, Turn, did, gave, step, told, viewIn}
-use Rattle.shelf.specs.Views.{asks, countOf, currentOn, delivers, deliverySays, fetches, fetchingSays, keyIn, statusSays}
+use Rattle.shelf.specs.Views.{asks, partOrComplete, currentOn, delivers, deliverySays, fetches, fetchingSays, keyIn, statusSays}
 use Rattle.shelf_laws.specs.Laws.{Empty, Obeys, Says, Steps}
 use Rattle.shelf_laws.proofs.EmptyLaws.{empty-law}
 use Rattle.shelf_laws.proofs.StepLaws.{answer-law}
@@ -58,8 +58,8 @@ counted-all (suc n) p e = ⊎-elim
     (λ f. absurd (omega (arith, e, ap one f, count-upto n p)))
     (both (p n))
 
-pub count-says : (n : ℕ) (p : ℕ → Bool) → countOf (count n p) n ≡ pick (all n p) (complete n) (part (count n p) n)
-unfolding countOf ifEq
+pub count-says : (n : ℕ) (p : ℕ → Bool) → partOrComplete (count n p) n ≡ pick (all n p) (complete n) (part (count n p) n)
+unfolding partOrComplete ifEq
 count-says n p =
     ap (λ (b : Bool). pick b (complete n) (part (count n p) n))
     (same-truth (eqb (count n p) n) (all n p) (λ e. counted-all n p (eqb-true _ _ e)) (λ e. eq-eqb _ _ (all-counted n p e)))

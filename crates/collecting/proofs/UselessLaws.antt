@@ -9,17 +9,17 @@ use lib.Dec.{eqb}
 use lib.ListN.{length, length-replicate, replicate}
 use Rattle.logic.specs.Choices.{ifEq, pick}
 use Rattle.logic.specs.Loops.{_&_, sum}
-use Rattle.refusal.specs.Outcomes.{refused, result}
+use Rattle.refusal.specs.Outcomes.{refused, result, orRefuse}
 use Rattle.shelf_state.specs.Records.{sameKey}
 use Rattle.shelf_state.specs.declared.records.Asked.{Asked}
 use Rattle.shelf.specs.Answers.{Status, complete, part, unheard}
 use Rattle.shelf.specs.Steps.{Answer, State, Turn, did, step, stepOn, told, viewIn}
-use Rattle.shelf.specs.Views.{Closing, Delivery, View, closes, countOf, delivers, deliverySays, freshView, hears, put, sameEdition, statusOf}
+use Rattle.shelf.specs.Views.{Closing, Delivery, View, closes, partOrComplete, delivers, deliverySays, freshView, hears, put, sameEdition, statusOf}
 use Rattle.shelf_laws.proofs.ViewLaws.{never-some}
 use Rattle.collecting.proofs.KnownLaws.{Known, hearing, hears-it, tells-status}
 use Rattle.collecting.proofs.SampleLaws.{eit-key, empty-known, fresh-known, freshViews, room, table}
 use Rattle.collecting.proofs.SecondHalf.{second-half}
-use Rattle.collecting.specs.Collecting.{Allowed, Build, Complete, Entry, FirstHalf, Made, NoneRefused, Own, SecondHalf, Silent, Stretch, after, and-then, byValue, deliver, end, heard, here, no-more, nothingYet, one-more, ours, recorded, status, statusTold, then, there}
+use Rattle.collecting.specs.Collecting.{Allowed, Build, Complete, Exchange, FirstHalf, Made, NoneRefused, Own, SecondHalf, Silent, Stretch, stateAfter, and-then, byValue, deliver, end, heard, here, no-more, nothingYet, one-more, ours, recorded, status, statusTold, then, there}
 use Rattle.collecting.specs.Samples.{eitHeader, emptyState, fresh, mine, opening, section, theirs}
 use Rattle.collecting.specs.Useless.{Calls, completeAtLast, constant, hasHeard, madeUp, refusesAll, retold, storesFirst, storesNothing, telling}
 
@@ -71,7 +71,7 @@ module _ (f : Calls) where
   owned : Own (length (x .area)) inOrder
   owned = subst (λ (n : ℕ). Own n inOrder) (sym (known-0 .size)) (one-more refl (one-more refl (one-more refl no-more)))
 
-  meets : FirstHalf B → NoneRefused B table x inOrder × Complete B table (after B x inOrder)
+  meets : FirstHalf B → NoneRefused B table x inOrder × Complete B table (stateAfter B x inOrder)
   unfolding sameKey _&_
   meets h = h x mine (freshView 3) table inOrder (known-0 .ok) (known-0 .views mine) (omega arith) owned stretches made
 
@@ -110,7 +110,7 @@ unfolding sameKey _&_ statusOf
 unheard-yet = tells-status x known-0 mine .answer
 
 pub not-stores-nothing : FirstHalf (byValue storesNothing) → ⊥
-unfolding after
+unfolding stateAfter
 not-stores-nothing h = not-unheard 3 (sym unheard-yet ∙ meets storesNothing h .1 .says)
 
 -- after the first section, and after the second
@@ -121,19 +121,19 @@ abbrev one-on : State
 one-on = step x (sends 0) .next
 
 known-1 : Known room (with-section 0 freshViews) one-on
-unfolding sameKey _&_ deliverySays
+unfolding sameKey _&_ deliverySays orRefuse
 known-1 = hears-it x known-0 (table .sections 0 (omega arith)) (omega arith) refl .known
 
 one-of-three : step one-on (status mine) .answer ≡ told (result (part 1 3))
-unfolding sameKey _&_ hears put sameEdition statusOf countOf ifEq sum
+unfolding sameKey _&_ hears put sameEdition statusOf partOrComplete ifEq sum
 one-of-three = tells-status one-on known-1 mine .answer
 
 known-2 : Known room (with-section 1 (with-section 0 freshViews)) (step one-on (sends 1) .next)
-unfolding sameKey _&_ hears deliverySays
+unfolding sameKey _&_ hears deliverySays orRefuse
 known-2 = hears-it one-on known-1 (table .sections 1 (omega arith)) (omega arith) refl .known
 
 two-of-three : step (step one-on (sends 1) .next) (status mine) .answer ≡ told (result (part 2 3))
-unfolding sameKey _&_ hears put sameEdition statusOf countOf ifEq sum
+unfolding sameKey _&_ hears put sameEdition statusOf partOrComplete ifEq sum
 two-of-three = tells-status (step one-on (sends 1) .next) known-2 mine .answer
 
 -- the first section alone is there at the end
@@ -142,10 +142,10 @@ first-next : (f : Asked → Option View) (z : State) (m : ℕ) (heard : Bool) �
 first-next f z m heard i e = rw (eit-key 0x1D00 7 4 m 2, i .views mine, e)
 
 pub not-stores-first : FirstHalf (byValue storesFirst) → ⊥
-unfolding after sameKey _&_ hears
+unfolding stateAfter sameKey _&_ hears
 not-stores-first h =
-    let e = ap (λ (z : State). after (byValue storesFirst) z (sends 1 ∷ sends 2 ∷ [])) (first-next freshViews x 0 false known-0 refl)
-    ∙ ap (λ (z : State). after (byValue storesFirst) z (sends 2 ∷ [])) (first-next (with-section 0 freshViews) one-on 1 true known-1 refl)
+    let e = ap (λ (z : State). stateAfter (byValue storesFirst) z (sends 1 ∷ sends 2 ∷ [])) (first-next freshViews x 0 false known-0 refl)
+    ∙ ap (λ (z : State). stateAfter (byValue storesFirst) z (sends 2 ∷ [])) (first-next (with-section 0 freshViews) one-on 1 true known-1 refl)
     ∙ first-next (with-section 0 freshViews) one-on 2 true known-1 refl in
     not-part 1 3 (sym one-of-three ∙ ap (λ (z : State). step z (status mine) .answer) (sym e) ∙ meets storesFirst h .1 .says)
 
@@ -157,8 +157,8 @@ abbrev opened-and : List Turn → List Turn
 opened-and ts = opening mine 3 ∷ opening theirs 2 ∷ ts
 
 module _ (f : ℕ → ℕ → Status) (h : SecondHalf (byValue (telling f))) where
-  told-as : (ts : List Turn) (c n : ℕ) → Own room ts → after (byValue (telling f)) before ts ≡ after ours before ts → recorded (byValue (telling f)) before ts ≡ recorded ours before ts
-      → step (after ours before ts) (status mine) .answer ≡ told (result (part c n)) → told (result (f c n)) ≡ told (result (part c n))
+  told-as : (ts : List Turn) (c n : ℕ) → Own room ts → stateAfter (byValue (telling f)) before ts ≡ stateAfter ours before ts → recorded (byValue (telling f)) before ts ≡ recorded ours before ts
+      → step (stateAfter ours before ts) (status mine) .answer ≡ told (result (part c n)) → told (result (f c n)) ≡ told (result (part c n))
   told-as ts c n lent same-end same-record e =
       let i = empty-known blank blank-size in
       let silent : Silent before = λ k v q. never-some v (sym (i .views k) ∙ q) in
@@ -166,16 +166,16 @@ module _ (f : ℕ → ℕ → Status) (h : SecondHalf (byValue (telling f))) whe
       ap (retold f) (sym e)
       ∙ ap (λ (z : State). retold f (step z (status mine) .answer)) (sym same-end)
       ∙ h before mine ts (i .ok) silent lent-it .says
-      ∙ ap (λ (es : List Entry). told (statusTold (heard mine (nothingYet (viewIn before mine)) es))) same-record
+      ∙ ap (λ (es : List Exchange). told (statusTold (heard mine (nothingYet (viewIn before mine)) es))) same-record
       ∙ sym (second-half before mine ts (i .ok) silent lent-it .says)
       ∙ e
 
   after-one : told (result (f 1 3)) ≡ told (result (part 1 3))
-  unfolding after recorded step stepOn
+  unfolding stateAfter recorded step stepOn
   after-one = told-as (opened-and (sends 0 ∷ [])) 1 3 (one-more refl (one-more refl (one-more refl no-more))) refl refl one-of-three
 
   after-two : told (result (f 2 3)) ≡ told (result (part 2 3))
-  unfolding after recorded step stepOn
+  unfolding stateAfter recorded step stepOn
   after-two = told-as (opened-and (sends 0 ∷ sends 1 ∷ [])) 2 3 (one-more refl (one-more refl (one-more refl (one-more refl no-more)))) refl refl two-of-three
 
 pub not-made-up : (c : ℕ) → SecondHalf (byValue (madeUp c)) → ⊥

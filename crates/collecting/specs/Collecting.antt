@@ -20,7 +20,7 @@ use Rattle.shelf.specs.Calls.{made}
 use Rattle.shelf.specs.Steps.{Answer, State, Step, Turn, accepted, did, gave, own, ownOr14, step, told, viewIn}
 use Rattle.shelf.specs.Views.{Call, Closing, Delivery, View, asks, closes, delivers, fetches, isSome, judged, keyIn, opens}
 use Rattle.shelf_laws.specs.Laws.{Obeys, quotaClosed, quotaOpened}
-use Rattle.lent.specs.Meaning.{LentState}
+use Rattle.lent_memory.specs.Meaning.{LentState}
 use Rattle.lent_laws.specs.Laws.{RefusedKeeps, lentStep, stateOf}
 
 -- ---- builds: their memory, the shelf and area that it means, and what a call answers and leaves
@@ -41,9 +41,9 @@ abbrev pub ours : Build
 ours = byValue step
 
 -- ---- stretches of calls
-unfoldable pub after : (B : Build) → B .Memory → List Turn → B .Memory
-after B x [] = x
-after B x (t ∷ ts) = after B (B .turn x t .next) ts
+unfoldable pub stateAfter : (B : Build) → B .Memory → List Turn → B .Memory
+stateAfter B x [] = x
+stateAfter B x (t ∷ ts) = stateAfter B (B .turn x t .next) ts
 
 -- a call to which the shelf's own area is lent
 abbrev pub to : Call → Turn
@@ -65,7 +65,7 @@ pub data Own (n : ℕ) : List Turn → Type 0 where
 
 -- ---- the first half
 -- a table of a key: sound, current sections of that key, one version, one last number and one section for each number up to it
-pub record Section (k : Asked) (version last number : ℕ) (b : List ℕ) : Type 0 where
+pub record TableSection (k : Asked) (version last number : ℕ) (b : List ℕ) : Type 0 where
   pub head : Header
   pub sound : judged b ≡ result head
   pub current : head .current ≡ 0 → ⊥
@@ -78,7 +78,7 @@ pub record Table (k : Asked) : Type 0 where
   pub version : ℕ
   pub last : ℕ
   pub bytes : ℕ → List ℕ
-  pub sections : (m : ℕ) → m ≤ last → Section k version last m (bytes m)
+  pub sections : (m : ℕ) → m ≤ last → TableSection k version last m (bytes m)
 
 pub record OneOf {k : Asked} (table : Table k) (b : List ℕ) : Type 0 where
   pub number : ℕ
@@ -121,14 +121,14 @@ FirstHalf B =
     → Own (length (B .means x .area)) ts
     → Stretch B table x ts
     → ((m : ℕ) → m ≤ table .last → Made (deliver (k .pid) (table .bytes m)) ts)
-    → NoneRefused B table x ts × Complete B table (after B x ts)
+    → NoneRefused B table x ts × Complete B table (stateAfter B x ts)
 
 -- ---- the second half: told by the record of calls and answers alone
-pub record Entry : Type 0 where
+pub record Exchange : Type 0 where
   pub call : Call
   pub answer : Answer
 
-unfoldable pub recorded : (B : Build) → B .Memory → List Turn → List Entry
+unfoldable pub recorded : (B : Build) → B .Memory → List Turn → List Exchange
 recorded B x [] = []
 recorded B x (t ∷ ts) = record { call = t .call; answer = B .turn x t .answer } ∷ recorded B (B .turn x t .next) ts
 
@@ -149,7 +149,7 @@ heardNext k (asks q) y hs = hs
 heardNext k (fetches f) y hs = hs
 heardNext k (delivers d) y hs = pick (y & sameKey k (keyIn (d .pid) (d .bytes))) (heardWith hs (d .bytes) (judged (d .bytes))) hs
 
-unfoldable pub heard : Asked → Option (List Heard) → List Entry → Option (List Heard)
+unfoldable pub heard : Asked → Option (List Heard) → List Exchange → Option (List Heard)
 heard k hs [] = hs
 heard k hs (e ∷ es) = heard k (heardNext k (e .call) (accepted (e .answer)) hs) es
 
@@ -203,7 +203,7 @@ pub record ToldBy (B : Build) (x : B .Memory) (k : Asked) (hs : Option (List Hea
 abbrev pub SecondHalf : Build → Type 0
 SecondHalf B =
     (x : B .Memory) (k : Asked) (ts : List Turn) → Obeys (B .means x) → Silent (B .means x) → Own (length (B .means x .area)) ts
-    → ToldBy B (after B x ts) k (heard k (nothingYet (viewIn (B .means x) k)) (recorded B x ts))
+    → ToldBy B (stateAfter B x ts) k (heard k (nothingYet (viewIn (B .means x) k)) (recorded B x ts))
 
 -- so a watch is called complete only where every section of its edition was accepted since that edition began
 abbrev pub EachAccepted : ℕ → Option (List Heard) → Type 0
@@ -213,7 +213,7 @@ EachAccepted n (some ds) = (m : ℕ) → m < n → occurs (run ds) m ≡ true
 abbrev pub CompleteOnlyThen : Type 1
 CompleteOnlyThen =
     (B : Build) → SecondHalf B → (x : B .Memory) (k : Asked) (ts : List Turn) (n : ℕ) → Obeys (B .means x) → Silent (B .means x) → Own (length (B .means x .area)) ts
-    → B .turn (after B x ts) (status k) .answer ≡ told (result (complete n))
+    → B .turn (stateAfter B x ts) (status k) .answer ≡ told (result (complete n))
     → EachAccepted n (heard k (nothingYet (viewIn (B .means x) k)) (recorded B x ts))
 
 -- ---- from memory that means an empty shelf
@@ -225,10 +225,10 @@ pub record StartsEmpty (B : Build) (x : B .Memory) : Type 0 where
   pub area-is : length (B .means x .area) ≡ places * 4096
 
 abbrev pub FromEmpty : Build → Type 0
-FromEmpty B = (x : B .Memory) (k : Asked) (ts : List Turn) → StartsEmpty B x → Own (length (B .means x .area)) ts → ToldBy B (after B x ts) k (heard k none (recorded B x ts))
+FromEmpty B = (x : B .Memory) (k : Asked) (ts : List Turn) → StartsEmpty B x → Own (length (B .means x .area)) ts → ToldBy B (stateAfter B x ts) k (heard k none (recorded B x ts))
 
 -- ---- places promised: the quotas opened less the quotas closed, those that the record says they were opened with
-unfoldable pub quotasOpened : List Entry → ℕ
+unfoldable pub quotasOpened : List Exchange → ℕ
 quotasOpened [] = 0
 quotasOpened (e ∷ es) = quotaOpened (e .call) (accepted (e .answer)) + quotasOpened es
 
@@ -239,7 +239,7 @@ quotaNext k (asks q) y n = n
 quotaNext k (fetches f) y n = n
 quotaNext k (delivers d) y n = n
 
-unfoldable pub quotasClosed : (Asked → ℕ) → List Entry → ℕ
+unfoldable pub quotasClosed : (Asked → ℕ) → List Exchange → ℕ
 quotasClosed f [] = 0
 quotasClosed f (e ∷ es) =
     quotaClosed (e .call) (accepted (e .answer)) f
@@ -247,7 +247,7 @@ quotasClosed f (e ∷ es) =
 
 abbrev pub PlacesPromised : Build → Type 0
 PlacesPromised B = (x : B .Memory) (ts : List Turn) → StartsEmpty B x → Own (length (B .means x .area)) ts
-    → promised (B .means (after B x ts) .shelf) + quotasClosed (λ k. 0) (recorded B x ts) ≡ quotasOpened (recorded B x ts)
+    → promised (B .means (stateAfter B x ts) .shelf) + quotasClosed (λ k. 0) (recorded B x ts) ≡ quotasOpened (recorded B x ts)
 
 -- ---- a build that answers and leaves what the calls by value do, of the shelf and area that its memory means, keeps all of these
 pub record Agrees (B : Build) : Type 0 where

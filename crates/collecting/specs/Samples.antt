@@ -12,7 +12,7 @@ use Rattle.shelf.specs.Answers.{complete, part}
 use Rattle.shelf.specs.Calls.{made}
 use Rattle.shelf.specs.Steps.{Answer, State, Turn, did, gave, other, told}
 use Rattle.shelf.specs.Views.{delivers, opens}
-use Rattle.collecting.specs.Collecting.{Entry, after, deliver, fetch, ours, status, to}
+use Rattle.collecting.specs.Collecting.{Exchange, stateAfter, deliver, fetch, ours, status, to}
 
 -- ---- sections: EITs without events, current, of a source
 abbrev pub eitKey : ℕ → ℕ → Asked
@@ -38,11 +38,11 @@ abbrev pub emptyState : ℕ → ℕ → List ℕ → State
 emptyState places records area = record { shelf = made places records .shelf; area = area }
 
 abbrev pub fresh : List ℕ → State
-fresh area = after ours (emptyState 5 2 area) (opening mine 3 ∷ opening theirs 2 ∷ [])
+fresh area = stateAfter ours (emptyState 5 2 area) (opening mine 3 ∷ opening theirs 2 ∷ [])
 
 -- and on it a section of an edition that the table will end: version 3
 abbrev pub start : List ℕ → State
-start area = after ours (fresh area) (deliver 0x1D00 (eit 7 3 1 2) ∷ [])
+start area = stateAfter ours (fresh area) (deliver 0x1D00 (eit 7 3 1 2) ∷ [])
 
 -- ---- the table: version 4
 abbrev pub section : ℕ → List ℕ
@@ -92,6 +92,6 @@ answers =
     ∷ []
 
 -- the answers in a record
-abbrev pub answersIn : List Entry → List Answer
+abbrev pub answersIn : List Exchange → List Answer
 answersIn [] = []
 answersIn (e ∷ es) = e .answer ∷ answersIn es

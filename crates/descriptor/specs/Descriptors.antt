@@ -1,4 +1,4 @@
--- SCOPE 2.6 to 2.8: a descriptor list is a first descriptor and the rest; the content advisory, tag 0x87, is judged in an
+-- SCOPE 2.6 to 2.8: a descriptor list is empty, or a first descriptor and the rest; the content advisory, tag 0x87, is judged in an
 -- EIT, and all other tags are opaque.
 use Prim.Native.Nat.{ℕ}
 use mathlib.Core.Path.{refl}
@@ -7,12 +7,13 @@ use mathlib.Core.List.{List, [], _∷_}
 use native.Mathlib.Omega.{arith}
 use lib.ListN.{length}
 use lib.Dec.{eqb}
-use Rattle.format.specs.Formats.{One, Format, Filling, last, lastButOne, both, filledBy, seq, exact, any, choice, list, Full, under}
+use Rattle.format.specs.Formats.{One, Format, Filling, last, lastButOne, both, filledBy, seq, exact, anyBytes, choice, list, Full, under}
 use Rattle.format.specs.Values.{bits, reserved}
 use Rattle.format.specs.Named.{named}
 use Rattle.format.specs.Told.{Tells, told, told-full, all8, counting, few, sized12, sized10}
 use Rattle.strings.specs.Strings.{text, sizedText}
 
+-- ---- the content advisory
 -- dimension 8, r 4, value 4
 pub record RatingFields : Type 0 where
   pub dimension : ℕ
@@ -51,15 +52,17 @@ advisory =
     under (few (reserved 2 ∷ []) 6 refl region) {Y = AdvisoryFields} (λ a. ((a .r, record {}), a .regions))
     (λ x. record { r = x .0 .0; regions = x .1 }) (λ x. refl) (λ y. refl)
 
+-- ---- a descriptor, and a list of them
 -- what stands in a descriptor of a tag: where the tag is the judged one, an advisory that fills it, and else any bytes
 unfoldable pub content : ℕ → Filling ℕ
-content judged = choice (eqb judged) (exact advisory) any
+content judged = choice (eqb judged) (exact advisory) anyBytes
 
 -- tag 8, length 8, that many bytes
 pub record DescriptorFields : Type 0 where
   pub tag : ℕ
   pub content : AdvisoryFields ⊎ List ℕ
 
+-- (laws, which may be skipped: what a head tells of what follows, and that no descriptor is empty)
 pub tag-tells : Tells (bits 8 ∷ []) 8 2 (both last lastButOne) (λ v m. (m, v .0))
 tag-tells h l z = let a = all8 h 1 z in let b = all8 h 0 z in λ i. (a i, b i)
 
@@ -88,6 +91,7 @@ unfoldable pub descriptorsOf : (judged : ℕ) → descriptors judged .Val → Li
 unfolding descriptors descriptor
 descriptorsOf judged ds = ds
 
+-- ---- bytes, and lists with their length
 -- the bytes of a region, of a descriptor's content, and of a descriptor
 unfoldable pub regionBytes : RegionFields → List ℕ
 unfolding region

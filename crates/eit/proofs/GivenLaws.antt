@@ -15,7 +15,7 @@ use Rattle.bytes_at.specs.declared.Walk.{Walk}
 use Rattle.bytes_at.specs.declared.Walk.the-variants.{To, Bad}
 use Rattle.bytes_at.specs.Walks.{Stands}
 use Rattle.format.specs.Lawful.{Bytes, All, encs}
-use Rattle.format.specs.Formats.{Filling, One, any, walksAll}
+use Rattle.format.specs.Formats.{Filling, One, anyBytes, walksAll}
 use Rattle.format.specs.Values.{bytesOf}
 use Rattle.format.specs.Laws.OfBytes.{part-length, part-bytes}
 use Rattle.format.specs.Laws.OfValues.{bytes-length}
@@ -111,7 +111,7 @@ module _ (rows bytes : List ℕ) (a : ℕ) where
 
 -- the bytes of its event, whose places lie within the bytes
 pub event-length : (rows bytes : List ℕ) (a : ℕ) → endOf (titleGiven rows a) ≤ length bytes → endOf (listGiven rows a) ≤ length bytes
-    → length (eventOf any any .enc (eventGiven rows bytes a)) ≡ 12 + titleGiven rows a .length + listGiven rows a .length
+    → length (eventOf anyBytes anyBytes .enc (eventGiven rows bytes a)) ≡ 12 + titleGiven rows a .length + listGiven rows a .length
 unfolding eventGiven
 event-length rows bytes a h k =
     let t = part-length bytes (titleGiven rows a .length) (titleGiven rows a .start) h in
@@ -174,14 +174,14 @@ module _ (rows : List ℕ) where
 
   -- the bytes of the events
   pub events-length : (bytes : List ℕ) (n a : ℕ) → rowsSound rows bytes n a ≡ true
-      → length (encs (eventOf any any .enc) (eventsGiven rows bytes n a)) ≡ sizeGiven rows n a
+      → length (encs (eventOf anyBytes anyBytes .enc) (eventsGiven rows bytes n a)) ≡ sizeGiven rows n a
   unfolding rowsSound eventsGiven sizeGiven
   events-length bytes zero a e = refl
   events-length bytes (suc n) a e =
       let s = row-sound rows bytes a (and-left _ _ e) in
       omega (
         arith,
-        length-append (eventOf any any .enc (eventGiven rows bytes a)) (encs (eventOf any any .enc) (eventsGiven rows bytes n (a + 8))),
+        length-append (eventOf anyBytes anyBytes .enc (eventGiven rows bytes a)) (encs (eventOf anyBytes anyBytes .enc) (eventsGiven rows bytes n (a + 8))),
         event-length rows bytes a (s .0 .0) (s .1 .0),
         events-length bytes n (a + 8) (and-right _ _ e),
       )
@@ -197,7 +197,7 @@ module _ (rows : List ℕ) where
 -- and its reserved bits are ones
 pub record IsGiven (rows bytes : List ℕ) (a : ℕ) (e : EventFields) : Type 0 where
   pub good : eventFormat .Ok (record {}) e
-  pub same : eventFormat .enc e ≡ eventOf any any .enc (eventGiven rows bytes a)
+  pub same : eventFormat .enc e ≡ eventOf anyBytes anyBytes .enc (eventGiven rows bytes a)
   pub head : e .head ≡ headGiven rows a
   pub title : text .enc (e .title) ≡ bytesIn bytes (titleGiven rows a)
   pub descs : descriptors contentAdvisory .enc (e .descs) ≡ bytesIn bytes (listGiven rows a)
@@ -219,7 +219,7 @@ module _ (rows bytes : List ℕ) where
   given-ones a (e ∷ es) g = (g .0 .ones, given-ones (a + 8) es (g .1))
 
   pub given-same : (a : ℕ) (es : List EventFields) → AreGiven rows bytes a es
-      → encs (eventFormat .enc) es ≡ encs (eventOf any any .enc) (eventsGiven rows bytes (length es) a)
+      → encs (eventFormat .enc) es ≡ encs (eventOf anyBytes anyBytes .enc) (eventsGiven rows bytes (length es) a)
   unfolding eventsGiven
   given-same a [] g = refl
   given-same a (e ∷ es) g = let x = g .0 .same in let xs = given-same (a + 8) es (g .1) in λ i. x i ++ xs i
@@ -246,7 +246,7 @@ module _ (rows bytes : List ℕ) (z : Bytes bytes) where
               ((omega arith, record {}), (omega (arith, ld, r .list), (refl, d .1 .0))),
             ),
           );
-          same = λ i. eventOf any any .enc (record { head = headGiven rows a; title = sym (t .1 .1) i; r = 15; descs = sym (d .1 .1) i });
+          same = λ i. eventOf anyBytes anyBytes .enc (record { head = headGiven rows a; title = sym (t .1 .1) i; r = 15; descs = sym (d .1 .1) i });
           head = refl;
           title = sym (t .1 .1);
           descs = sym (d .1 .1);
@@ -265,11 +265,11 @@ module _ (rows bytes : List ℕ) (z : Bytes bytes) where
 
   -- and the body of as many events as its count can tell is a body of the judged format
   pub body-given : (n : ℕ) → n < 256 → rowsFit rows n 0 ≡ true → rowsSound rows bytes n 0 ≡ true
-      → (b : EitFields) × ((eitFormat .Ok (record {}) b × (eitFormat .enc b ≡ eitOf any any .enc (record { events = eventsGiven rows bytes n 0 })))
+      → (b : EitFields) × ((eitFormat .Ok (record {}) b × (eitFormat .enc b ≡ eitOf anyBytes anyBytes .enc (record { events = eventsGiven rows bytes n 0 })))
       × (AreGiven rows bytes 0 (b .events) × (length (b .events) ≡ n)))
   body-given n h f s =
       let es = events-given n 0 f s in
-      let e = given-same rows bytes 0 (es .0) (es .1 .0) ∙ ap (λ m. encs (eventOf any any .enc) (eventsGiven rows bytes m 0)) (es .1 .1) in
+      let e = given-same rows bytes 0 (es .0) (es .1 .0) ∙ ap (λ m. encs (eventOf anyBytes anyBytes .enc) (eventsGiven rows bytes m 0)) (es .1 .1) in
       let c : length (es .0) ≡ length (eventsGiven rows bytes n 0) = es .1 .1 ∙ sym (events-count rows bytes n 0) in (
         record { events = es .0 },
         (

@@ -7,7 +7,7 @@ use native.Mathlib.Omega.{arith}
 use lib.ListN.{length, length-append}
 use lib.Seq.{sets, length-sets}
 use Rattle.format.specs.Lawful.{encs}
-use Rattle.format.specs.Formats.{any}
+use Rattle.format.specs.Formats.{anyBytes}
 use Rattle.format.specs.Told.{sized8, sized12}
 use Rattle.format.specs.Values.{number, bytesOf}
 use Rattle.format.specs.Laws.OfBytes.{part-length}
@@ -43,18 +43,18 @@ module _ (bytes : List ℕ) (p : Part) (h : endOf p ≤ length bytes) where
   there = omega (arith, part-length bytes (p .length) (p .start) h)
 
   pub title-put : (o : List ℕ) (at : ℕ) {k m : List ℕ} → k ≡ sets o at (bytesOf 1 (p .length)) → m ≡ sets k (at + 1) (bytesIn bytes p)
-      → m ≡ sets o at (sized8 any .enc (record {}, bytesIn bytes p))
+      → m ≡ sets o at (sized8 anyBytes .enc (record {}, bytesIn bytes p))
   title-put o at f g =
       put-behind o at 1 (bytesOf 1 (p .length)) (bytesIn bytes p) (bytes-length 1 (p .length)) f g
       ∙ ap (λ n. sets o at (bytesOf 1 n ++ bytesIn bytes p)) there
 
-  title-length : length (sized8 any .enc (record {}, bytesIn bytes p)) ≡ 1 + p .length
+  title-length : length (sized8 anyBytes .enc (record {}, bytesIn bytes p)) ≡ 1 + p .length
   title-length =
       let n = 0 + length (bytesIn bytes p) in
       omega (arith, length-append (bytesOf 1 n) (bytesIn bytes p), bytes-length 1 n, there)
 
   pub list-put : (o : List ℕ) (at : ℕ) {k m : List ℕ} → k ≡ sets o at (bytesOf 2 (61440 + p .length)) → m ≡ sets k (at + 2) (bytesIn bytes p)
-      → m ≡ sets o at (sized12 any .enc ((15, record {}), bytesIn bytes p))
+      → m ≡ sets o at (sized12 anyBytes .enc ((15, record {}), bytesIn bytes p))
   list-put o at f g =
       let e : 61440 + p .length ≡ (15 * 1 + 0) * 4096 + length (bytesIn bytes p) = omega (arith, there) in
       put-behind o at 2 (bytesOf 2 (61440 + p .length)) (bytesIn bytes p) (bytes-length 2 (61440 + p .length)) f g
@@ -78,15 +78,15 @@ row-placed rows bytes a at size g h et ed =
 -- its head, its title and its descriptors, and where it ends
 module _ (rows bytes : List ℕ) (a : ℕ) (row : RowGiven rows bytes a) where
   pub event-put : (o : List ℕ) (at : ℕ) {k m n : List ℕ} {t d : Part} → t ≡ titleGiven rows a → d ≡ listGiven rows a
-      → k ≡ sets o at (bytesOf 9 (number eventHead (headOf (headGiven rows a)))) → m ≡ sets k (at + 9) (sized8 any .enc (record {}, bytesIn bytes t))
-      → n ≡ sets m (at + 10 + t .length) (sized12 any .enc ((15, record {}), bytesIn bytes d))
-      → n ≡ sets o at (eventOf any any .enc (eventGiven rows bytes a))
+      → k ≡ sets o at (bytesOf 9 (number eventHead (headOf (headGiven rows a)))) → m ≡ sets k (at + 9) (sized8 anyBytes .enc (record {}, bytesIn bytes t))
+      → n ≡ sets m (at + 10 + t .length) (sized12 anyBytes .enc ((15, record {}), bytesIn bytes d))
+      → n ≡ sets o at (eventOf anyBytes anyBytes .enc (eventGiven rows bytes a))
   unfolding eventGiven
   event-put o at {m = m} {n = n} et ed f g i =
       let h = row-sound rows bytes a (row .sound) .0 .0 in
       let x = bytesOf 9 (number eventHead (headOf (headGiven rows a))) in
-      let y = sized8 any .enc (record {}, bytesIn bytes (titleGiven rows a)) in
-      let z = sized12 any .enc ((15, record {}), bytesIn bytes (listGiven rows a)) in
+      let y = sized8 anyBytes .enc (record {}, bytesIn bytes (titleGiven rows a)) in
+      let z = sized12 anyBytes .enc ((15, record {}), bytesIn bytes (listGiven rows a)) in
       let b = titleGiven rows a .length in
       let l : length (x ++ y) ≡ 10 + b =
       omega (arith, length-append x y, bytes-length 9 (number eventHead (headOf (headGiven rows a))), title-length bytes (titleGiven rows a) h) in
@@ -95,7 +95,7 @@ module _ (rows bytes : List ℕ) (a : ℕ) (row : RowGiven rows bytes a) where
       put-behind o at (10 + b) (x ++ y) z l (put-behind o at 9 x y (bytes-length 9 _) f (rw et at g)) j ∙ ap (sets o at) (append-assoc x y z)
 
   pub event-next : (at : ℕ) {t d : Part} → t ≡ titleGiven rows a → d ≡ listGiven rows a
-      → at + 12 + t .length + d .length ≡ at + length (eventOf any any .enc (eventGiven rows bytes a))
+      → at + 12 + t .length + d .length ≡ at + length (eventOf anyBytes anyBytes .enc (eventGiven rows bytes a))
   event-next at et ed =
       let s = row-sound rows bytes a (row .sound) in
       rw (et, ed, event-length rows bytes a (s .0 .0) (s .1 .0)) (omega arith)
@@ -106,7 +106,7 @@ pub record EventsLeft (rows bytes : List ℕ) (size : ℕ) (final o : List ℕ) 
   pub given : RowsGiven rows bytes n a
   pub same : length o ≡ size
   pub room : at + sizeGiven rows n a ≤ size
-  pub leads : sets o at (encs (eventOf any any .enc) (eventsGiven rows bytes n a)) ≡ final
+  pub leads : sets o at (encs (eventOf anyBytes anyBytes .enc) (eventsGiven rows bytes n a)) ≡ final
 
 module _ (rows bytes : List ℕ) where
   given-first : (n a : ℕ) → 0 < n → RowsGiven rows bytes n a → RowGiven rows bytes a × RowsGiven rows bytes (n - 1) (a + 8)
@@ -123,14 +123,14 @@ module _ (rows bytes : List ℕ) where
   events-first zero a h = absurd (omega arith)
   events-first (suc n) a h = rw sub-one
 
-  events-more : (o : List ℕ) (at n a : ℕ) → 0 < n → sets (sets o at (eventOf any any .enc (eventGiven rows bytes a)))
-      (at + length (eventOf any any .enc (eventGiven rows bytes a))) (encs (eventOf any any .enc) (eventsGiven rows bytes (n - 1) (a + 8)))
-      ≡ sets o at (encs (eventOf any any .enc) (eventsGiven rows bytes n a))
+  events-more : (o : List ℕ) (at n a : ℕ) → 0 < n → sets (sets o at (eventOf anyBytes anyBytes .enc (eventGiven rows bytes a)))
+      (at + length (eventOf anyBytes anyBytes .enc (eventGiven rows bytes a))) (encs (eventOf anyBytes anyBytes .enc) (eventsGiven rows bytes (n - 1) (a + 8)))
+      ≡ sets o at (encs (eventOf anyBytes anyBytes .enc) (eventsGiven rows bytes n a))
   events-more o at n a h =
-      sym (sets-append (eventOf any any .enc (eventGiven rows bytes a)) (encs (eventOf any any .enc) (eventsGiven rows bytes (n - 1) (a + 8))) o at)
-      ∙ ap (λ es. sets o at (encs (eventOf any any .enc) es)) (events-first n a h)
+      sym (sets-append (eventOf anyBytes anyBytes .enc (eventGiven rows bytes a)) (encs (eventOf anyBytes anyBytes .enc) (eventsGiven rows bytes (n - 1) (a + 8))) o at)
+      ∙ ap (λ es. sets o at (encs (eventOf anyBytes anyBytes .enc) es)) (events-first n a h)
 
-  events-none : (o : List ℕ) (at n a : ℕ) → n ≡ 0 → o ≡ sets o at (encs (eventOf any any .enc) (eventsGiven rows bytes n a))
+  events-none : (o : List ℕ) (at n a : ℕ) → n ≡ 0 → o ≡ sets o at (encs (eventOf anyBytes anyBytes .enc) (eventsGiven rows bytes n a))
   unfolding eventsGiven
   events-none o at n a e = rw e
 
@@ -142,15 +142,15 @@ module _ (rows bytes : List ℕ) where
       omega (arith, size-first rows n a h, left .room, left .same),
     )
 
-    pub events-step : (m : List ℕ) (next : ℕ) → 0 < n → m ≡ sets o at (eventOf any any .enc (eventGiven rows bytes a))
-        → next ≡ at + length (eventOf any any .enc (eventGiven rows bytes a)) → EventsLeft rows bytes size final m (a + 8) next (n - 1)
+    pub events-step : (m : List ℕ) (next : ℕ) → 0 < n → m ≡ sets o at (eventOf anyBytes anyBytes .enc (eventGiven rows bytes a))
+        → next ≡ at + length (eventOf anyBytes anyBytes .enc (eventGiven rows bytes a)) → EventsLeft rows bytes size final m (a + 8) next (n - 1)
     events-step m next h put e =
         let g = given-first n a h (left .given) in
         let s = row-sound rows bytes a (g .0 .sound) in
         let k = event-length rows bytes a (s .0 .0) (s .1 .0) in
         record {
           given = g .1;
-          same = ap length put ∙ length-sets o at (eventOf any any .enc (eventGiven rows bytes a)) ∙ left .same;
+          same = ap length put ∙ length-sets o at (eventOf anyBytes anyBytes .enc (eventGiven rows bytes a)) ∙ left .same;
           room = omega (arith, e, k, size-first rows n a h, left .room);
           leads = rw (put, e) (events-more o at n a h ∙ left .leads);
         }
@@ -160,9 +160,9 @@ module _ (rows bytes : List ℕ) where
 
   -- the body: the count, and behind it the events
   pub body-put : (o : List ℕ) (at n : ℕ) {k m : List ℕ} → k ≡ sets o at (bytesOf 1 n)
-      → m ≡ sets k (at + 1) (encs (eventOf any any .enc) (eventsGiven rows bytes n 0))
-      → m ≡ sets o at (eitOf any any .enc (record { events = eventsGiven rows bytes n 0 }))
+      → m ≡ sets k (at + 1) (encs (eventOf anyBytes anyBytes .enc) (eventsGiven rows bytes n 0))
+      → m ≡ sets o at (eitOf anyBytes anyBytes .enc (record { events = eventsGiven rows bytes n 0 }))
   body-put o at n f g =
-      let x = encs (eventOf any any .enc) (eventsGiven rows bytes n 0) in
+      let x = encs (eventOf anyBytes anyBytes .enc) (eventsGiven rows bytes n 0) in
       let e : n ≡ 0 + length (eventsGiven rows bytes n 0) = omega (arith, events-count rows bytes n 0) in
       put-behind o at 1 (bytesOf 1 n) x (bytes-length 1 n) f g ∙ ap (λ c. sets o at (bytesOf 1 c ++ x)) e

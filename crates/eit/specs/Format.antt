@@ -9,6 +9,7 @@ use Rattle.format.specs.Told.{counting, sized8, sized12}
 use Rattle.strings.specs.Strings.{text}
 use Rattle.descriptor.specs.Descriptors.{descriptors, contentAdvisory}
 
+-- ---- an event
 -- r 2, event_id 14, start_time 32, r 2, ETM_location 2, length_in_seconds 20
 abbrev pub eventHead : List Field
 eventHead = reserved 2 ∷ bits 14 ∷ bits 32 ∷ reserved 2 ∷ bits 2 ∷ bits 20 ∷ []
@@ -48,9 +49,11 @@ EventFields = EventOf (text .Val) (descriptors contentAdvisory .Val)
 abbrev pub eventFormat : Format One
 eventFormat = eventOf text (descriptors contentAdvisory)
 
+-- the same, shut, and what is made of it: the walk that the code is held to (law `same-walk`)
 unfoldable pub event : Format One
 event = eventFormat
 
+-- ---- the table
 -- count 8, and the events
 unfoldable pub events : Format One
 events = counting [] 0 refl event
@@ -69,5 +72,6 @@ EitFields = EitOf (text .Val) (descriptors contentAdvisory .Val)
 abbrev pub eitFormat : Filling One
 eitFormat = eitOf text (descriptors contentAdvisory)
 
+-- the same walk, shut, which the code is held to (law `same-walk`)
 unfoldable pub eit : Filling One
 eit = exact events

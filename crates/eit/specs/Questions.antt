@@ -4,7 +4,7 @@ use mathlib.Core.List.{List}
 use mathlib.Core.Option.{Option}
 use Rattle.logic.specs.Choices.{ifEq}
 use Rattle.part.specs.Parts.{endOf}
-use Rattle.rating.specs.Ratings.{Rated, ratingIn, Descriptor, descriptorIn, Place, textIn}
+use Rattle.rating.specs.Ratings.{Rated, ratingIn, Descriptor, descriptorIn, TextPart, textIn}
 use Rattle.eit.specs.declared.search.Sought.{Sought}
 use Rattle.eit.specs.declared.search.Sought.the-variants.{At, Nowhere}
 use Rattle.eit.specs.Fields.{headAt, descriptorsAt, eventEnd}
@@ -14,11 +14,11 @@ unfoldable pub ratingAt : List ℕ → ℕ → ℕ → ℕ → Rated
 ratingAt s a region dimension = ratingIn s region dimension (endOf (descriptorsAt s a)) (descriptorsAt s a .start)
 
 -- descriptor k
-unfoldable pub descriptorAt : List ℕ → ℕ → ℕ → Option Descriptor
-descriptorAt s a k = descriptorIn s (endOf (descriptorsAt s a)) k (descriptorsAt s a .start)
+unfoldable pub eventDescriptor : List ℕ → ℕ → ℕ → Option Descriptor
+eventDescriptor s a k = descriptorIn s (endOf (descriptorsAt s a)) k (descriptorsAt s a .start)
 
 -- the text of the first such region in the first content advisory
-unfoldable pub advisoryTextAt : List ℕ → ℕ → ℕ → Option Place
+unfoldable pub advisoryTextAt : List ℕ → ℕ → ℕ → Option TextPart
 advisoryTextAt s a region = textIn s region (endOf (descriptorsAt s a)) (descriptorsAt s a .start)
 
 -- where the first of n events, the first of which begins at a, has this event_id

@@ -10,7 +10,7 @@ ghost use mathlib.Core.Path.{_≡_};
 ghost use Prim.Native.Nat.{_≤_};
 ghost use lib.ListN.{length};
 ghost use Rattle.rating.specs.Ratings.{ratedOf, soughtDescriptor, soughtText};
-ghost use Rattle.eit.specs.Questions.{ratingAt, descriptorAt, advisoryTextAt};
+ghost use Rattle.eit.specs.Questions.{ratingAt, eventDescriptor, advisoryTextAt};
 
 // The rating for a region and a dimension.
 pub fn rating_at(s: &[u8], a: usize, region: usize, dimension: usize) -> Rating
@@ -25,7 +25,7 @@ pub fn rating_at(s: &[u8], a: usize, region: usize, dimension: usize) -> Rating
 // Descriptor k, from 0.
 pub fn descriptor_at(s: &[u8], a: usize, k: usize) -> SoughtDescriptor
     requires { ⌜ a ≤ length (now s) ⌝ }
-    ensures { λ r. ⌜ soughtDescriptor r ≡ descriptorAt (now (s .entry)) a k ⌝ }
+    ensures { λ r. ⌜ soughtDescriptor r ≡ eventDescriptor (now (s .entry)) a k ⌝ }
 {
     let d = descriptors_at(s, a);
     let from = d.start;

@@ -17,7 +17,7 @@ ghost use lib.ListN.{length, getD};
 ghost use lib.Seq.{sets};
 ghost use Rattle.part.specs.Parts.{endOf, bytesIn};
 ghost use Rattle.format.specs.Lawful.{encs};
-ghost use Rattle.format.specs.Formats.{any};
+ghost use Rattle.format.specs.Formats.{anyBytes};
 ghost use Rattle.format.specs.Told.{sized8, sized12};
 ghost use Rattle.format.specs.Values.{number, bytesOf};
 ghost use Rattle.strings.specs.Strings.{text};
@@ -186,7 +186,7 @@ fn put_head(rows: &[u32], a: usize, out: &mut [u8], at: usize)
 // A title with its length before it, and descriptors with theirs, from `at` on.
 fn put_title(bytes: &[u8], p: Part, out: &mut [u8], at: usize)
     requires { ⌜ ((endOf p ≤ length (now bytes)) × (p .length < 256)) × (at + 1 + p .length ≤ length (now out)) ⌝ }
-    ensures { λ _. ⌜ now (out .exit) ≡ sets (now (out .entry)) at (sized8 any .enc (record {}, bytesIn (now (bytes .entry)) p)) ⌝ }
+    ensures { λ _. ⌜ now (out .exit) ≡ sets (now (out .entry)) at (sized8 anyBytes .enc (record {}, bytesIn (now (bytes .entry)) p)) ⌝ }
 {
     put_byte(out, at, p.length);
     put_part(out, at + 1, bytes, p);
@@ -194,7 +194,7 @@ fn put_title(bytes: &[u8], p: Part, out: &mut [u8], at: usize)
 
 fn put_list(bytes: &[u8], p: Part, out: &mut [u8], at: usize)
     requires { ⌜ ((endOf p ≤ length (now bytes)) × (p .length < 4096)) × (at + 2 + p .length ≤ length (now out)) ⌝ }
-    ensures { λ _. ⌜ now (out .exit) ≡ sets (now (out .entry)) at (sized12 any .enc ((15, record {}), bytesIn (now (bytes .entry)) p)) ⌝ }
+    ensures { λ _. ⌜ now (out .exit) ≡ sets (now (out .entry)) at (sized12 anyBytes .enc ((15, record {}), bytesIn (now (bytes .entry)) p)) ⌝ }
 {
     put_word(out, at, 0xF000 + p.length);
     put_part(out, at + 2, bytes, p);
@@ -203,8 +203,8 @@ fn put_list(bytes: &[u8], p: Part, out: &mut [u8], at: usize)
 // The event of the row that begins at number a, from `at` on; answers where the next begins.
 pub fn put_event(rows: &[u32], a: usize, bytes: &[u8], out: &mut [u8], at: usize) -> usize
     requires { ⌜ RowGiven (now rows) (now bytes) a × (at + (12 + titleGiven (now rows) a .length + listGiven (now rows) a .length) ≤ length (now out)) ⌝ }
-    ensures puts { λ _. ⌜ now (out .exit) ≡ sets (now (out .entry)) at (eventOf any any .enc (eventGiven (now (rows .entry)) (now (bytes .entry)) a)) ⌝ }
-    ensures next { λ r. ⌜ r ≡ at + length (eventOf any any .enc (eventGiven (now (rows .entry)) (now (bytes .entry)) a)) ⌝ }
+    ensures puts { λ _. ⌜ now (out .exit) ≡ sets (now (out .entry)) at (eventOf anyBytes anyBytes .enc (eventGiven (now (rows .entry)) (now (bytes .entry)) a)) ⌝ }
+    ensures next { λ r. ⌜ r ≡ at + length (eventOf anyBytes anyBytes .enc (eventGiven (now (rows .entry)) (now (bytes .entry)) a)) ⌝ }
 {
     let t = title_given(rows, a);
     let d = list_given(rows, a);
@@ -217,7 +217,7 @@ pub fn put_event(rows: &[u32], a: usize, bytes: &[u8], out: &mut [u8], at: usize
 // The events of the first n rows, from `at` on.
 pub fn put_events(rows: &[u32], n: usize, bytes: &[u8], out: &mut [u8], at: usize)
     requires { ⌜ RowsGiven (now rows) (now bytes) n 0 × (at + sizeGiven (now rows) n 0 ≤ length (now out)) ⌝ }
-    ensures { λ _. ⌜ now (out .exit) ≡ sets (now (out .entry)) at (encs (eventOf any any .enc) (eventsGiven (now (rows .entry)) (now (bytes .entry)) n 0)) ⌝ }
+    ensures { λ _. ⌜ now (out .exit) ≡ sets (now (out .entry)) at (encs (eventOf anyBytes anyBytes .enc) (eventsGiven (now (rows .entry)) (now (bytes .entry)) n 0)) ⌝ }
 {
     let mut a = 0;
     let mut next = at;
@@ -232,7 +232,7 @@ pub fn put_events(rows: &[u32], n: usize, bytes: &[u8], out: &mut [u8], at: usiz
 // The body of an EIT of the first n rows, from `at` on: the count and the events.
 pub fn put_body(rows: &[u32], n: usize, bytes: &[u8], out: &mut [u8], at: usize)
     requires { ⌜ (RowsGiven (now rows) (now bytes) n 0 × (n ≤ 255)) × (at + 1 + sizeGiven (now rows) n 0 ≤ length (now out)) ⌝ }
-    ensures { λ _. ⌜ now (out .exit) ≡ sets (now (out .entry)) at (eitOf any any .enc (record { events = eventsGiven (now (rows .entry)) (now (bytes .entry)) n 0 })) ⌝ }
+    ensures { λ _. ⌜ now (out .exit) ≡ sets (now (out .entry)) at (eitOf anyBytes anyBytes .enc (record { events = eventsGiven (now (rows .entry)) (now (bytes .entry)) n 0 })) ⌝ }
 {
     put_byte(out, at, n);
     put_events(rows, n, bytes, out, at + 1);

@@ -6,8 +6,8 @@ use native.Mathlib.Omega.{arith}
 use lib.ListN.{length}
 use Rattle.bytes_at.specs.declared.Walk.{Walk}
 use Rattle.bytes_at.specs.declared.Walk.the-variants.{To, Bad}
-use Rattle.bytes_at.specs.Walks.{many, Stands}
-use Rattle.bytes_at.proofs.WalkLaws.{many-in, reached, stands-at}
+use Rattle.bytes_at.specs.Walks.{many, Stands, standing}
+use Rattle.bytes_at.proofs.WalkLaws.{many-in, reached, stands-at, standing-to, standing-is}
 use Rattle.logic.proofs.ChoiceLaws.{lt-yes}
 use Rattle.refusal.specs.Outcomes.{refused, result, after}
 use Rattle.refusal.proofs.OutcomeLaws.{not-both, after-is}
@@ -30,7 +30,7 @@ use Rattle.entry.specs.declared.Entry.{Entry}
 use Rattle.entry.specs.declared.Entry.the-variants.{Table, Channel, Dimension, Event}
 use Rattle.entry.specs.declared.Spot.{Spot}
 use Rattle.entry.specs.declared.Spot.the-variants.{At}
-use Rattle.entry.specs.Entries.{tableOf, startOf, formatOf, countOf, firstOf, entryWalk, standing, spotIn, spotOf, restIn}
+use Rattle.entry.specs.Entries.{kindOfEntry, startOf, formatOf, entryCount, firstEntry, entryWalk, spotIn, spotOf, restIn}
 use Rattle.entry.specs.Inner.{Begins, Inside}
 
 -- an entry ends where its container does or before
@@ -45,56 +45,52 @@ entry-inside Event s end a b w = event-forward s end a b w .1
 pub entries-inside : (e : Entry) (s : List ℕ) (i a : ℕ) → Begins e s → entryWalk e s i ≡ To a → a ≤ length s
 unfolding entryWalk
 entries-inside e s i a g w =
-    many-in _ (length s) (λ b c v. let t = entry-inside e s (length s - 4) b c v in omega arith) i (firstOf e s) a (g .first) w
+    many-in _ (length s) (λ b c v. let t = entry-inside e s (length s - 4) b c v in omega arith) i (firstEntry e s) a (g .first) w
 
 -- a body that is walked has as many entries as are counted
-body-entries : (e : Entry) (s : List ℕ) (x : ℕ) → bodyWalk (tableOf e) s ≡ To x
-    → Stands (entryWalk e s (countOf e s)) × (firstOf e s ≤ length s - 4)
-unfolding bodyOf entryWalk countOf firstOf formatOf
+body-entries : (e : Entry) (s : List ℕ) (x : ℕ) → bodyWalk (kindOfEntry e) s ≡ To x
+    → Stands (entryWalk e s (entryCount e s)) × (firstEntry e s ≤ length s - 4)
+unfolding bodyOf entryWalk entryCount firstEntry formatOf
 body-entries Table s x w = let p = body-tables s (length s - 4) (startOf Table) x w in ((p .0, p .1 .0), p .1 .1 .1)
 body-entries Channel s x w = let p = body-channels s (length s - 4) (startOf Channel) x w in ((p .0, p .1 .0), p .1 .1 .1)
 body-entries Dimension s x w = let p = body-dimensions s (length s - 4) (startOf Dimension) x w in ((p .0, p .1 .0), p .1 .1 .1)
 body-entries Event s x w = body-events s (length s - 4) (startOf Event) x w
 
-module _ (e : Entry) (s : List ℕ) (h : Header) (judged : sectionBy (onlyOf (tableOf e)) s ≡ result h) where
-  pub judged-entries : Stands (entryWalk e s (countOf e s))
-  judged-entries = let w = section-sound (tableOf e) s h judged .1 in body-entries e s (w .0) (w .1) .0
+module _ (e : Entry) (s : List ℕ) (h : Header) (judged : sectionBy (onlyOf (kindOfEntry e)) s ≡ result h) where
+  pub judged-entries : Stands (entryWalk e s (entryCount e s))
+  judged-entries = let w = section-sound (kindOfEntry e) s h judged .1 in body-entries e s (w .0) (w .1) .0
 
   pub judged-begins : Begins e s
   judged-begins =
-      let p = section-sound (tableOf e) s h judged in
+      let p = section-sound (kindOfEntry e) s h judged in
       let f = body-entries e s (p .1 .0) (p .1 .1) .1 in
-      let k = start-fits (tableOf e) in
+      let k = start-fits (kindOfEntry e) in
       let m = p .0 .smallest in
       let n = p .0 .size in
       record { body = omega arith; first = omega arith }
 
   -- an entry that the section has is found, and so is what follows them all
-  pub entry-found : (i : ℕ) → i < countOf e s → (a : ℕ) × (spotOf e s i ≡ result a)
+  pub entry-found : (i : ℕ) → i < entryCount e s → (a : ℕ) × (spotOf e s i ≡ result a)
   unfolding spotOf spotIn entryWalk after
   entry-found i l =
       let j = judged-entries in
-      let r = reached _ i (countOf e s) (firstOf e s) (j .0) (omega arith) (j .1) in
-      let w = sym (ap standing (r .1)) in
-      (r .0, rw judged (sym (lt-yes i (countOf e s) (standing (entryWalk e s i)) (refused 13) {r = result (r .0)} l w)))
+      let r = reached _ i (entryCount e s) (firstEntry e s) (j .0) (omega arith) (j .1) in
+      let w = standing-to _ _ (r .1) in
+      (r .0, rw judged (sym (lt-yes i (entryCount e s) (standing (entryWalk e s i)) (refused 13) {r = result (r .0)} l w)))
 
   pub rest-found : (b : ℕ) × (restIn e s ≡ result b)
   unfolding restIn
-  rest-found = (judged-entries .0, ap standing (judged-entries .1))
-
-pub standing-is : (w : Walk) (a : ℕ) → standing w ≡ result a → w ≡ To a
-standing-is (To b) a e = let q : b ≡ a = cc in ap To q
-standing-is (Bad x) a e = not-both 9 a e
+  rest-found = (judged-entries .0, sym (standing-to _ _ (judged-entries .1)))
 
 -- an entry that was found stands, and ends before the checksum
 pub entry-stands : (e : Entry) (s : List ℕ) (i a : ℕ) → spotOf e s i ≡ result a → Stands (walks (formatOf e) s (length s - 4) a)
 unfolding spotOf spotIn entryWalk
 entry-stands e s i a q =
-    let h = after-is (sectionBy (onlyOf (tableOf e)) s) _ a q in
-    let l = is-less i (countOf e s) 13 _ a (h .1 .1) in
+    let h = after-is (sectionBy (onlyOf (kindOfEntry e)) s) _ a q in
+    let l = is-less i (entryCount e s) 13 _ a (h .1 .1) in
     let w = standing-is (entryWalk e s i) a (l .1) in
     let j = judged-entries e s (h .0) (h .1 .0) in
-    stands-at _ i (countOf e s) (firstOf e s) a (j .0) (l .0) (j .1) w
+    stands-at _ i (entryCount e s) (firstEntry e s) a (j .0) (l .0) (j .1) w
 
 -- where a spot is, is within the bytes
 pub spot-inside : (s : List ℕ) {r : Spot} {a : ℕ} → Inside s r → r ≡ At a → a ≤ length s

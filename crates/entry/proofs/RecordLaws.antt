@@ -6,7 +6,8 @@ use mathlib.Core.List.{List}
 use native.Mathlib.Nat.{eq-zero-or-pos}
 use native.Mathlib.Omega.{arith}
 use lib.ListN.{length}
-use Rattle.bytes_at.specs.Walks.{many}
+use Rattle.bytes_at.proofs.WalkLaws.{standing-to}
+use Rattle.bytes_at.specs.Walks.{many, standing}
 use Rattle.logic.specs.Choices.{ifLt}
 use Rattle.logic.proofs.ChoiceLaws.{lt-yes, lt-no}
 use Rattle.refusal.specs.Outcomes.{Outcome, refused, result, after}
@@ -28,7 +29,7 @@ use Rattle.section.specs.Encoding.{Section, encode, WellFormed}
 use Rattle.section.proofs.EncodingLaws.{body-lies, body-ends, encode-bytes, accepts}
 use Rattle.entry.specs.declared.Entry.{Entry}
 use Rattle.entry.specs.declared.Entry.the-variants.{Table, Channel, Dimension, Event}
-use Rattle.entry.specs.Entries.{tableOf, startOf, formatOf, countOf, firstOf, entryWalk, standing, spotIn, spotOf, restIn, valueSpot}
+use Rattle.entry.specs.Entries.{kindOfEntry, startOf, formatOf, entryCount, firstEntry, entryWalk, spotIn, spotOf, restIn, valueSpot}
 use Rattle.entry.specs.Records.{recordOf, entriesOf, beginOf, ofEntry, ofValue}
 
 -- ---- what is told of number i, where so many are counted
@@ -41,7 +42,7 @@ module _ (f : Format One) (s : List ℕ) (end : ℕ) {A : Type 0} (answer : ℕ 
   counted-told i n c = ⊎-elim
       (λ h.
       let u = nth-told f s end answer told (refused 13) same first xs i g (omega arith) in
-      let w = sym (ap standing (u .1 .0)) in
+      let w = standing-to _ _ (u .1 .0) in
       rw (sym (lt-yes i n (standing (many (walks f s end) i first)) (refused 13) {r = result (u .0)} (omega arith) w)) (u .1 .1))
       (λ h.
       let u = nth-absent f s end answer told (refused 13) same first xs i (omega arith) in
@@ -50,10 +51,10 @@ module _ (f : Format One) (s : List ℕ) (end : ℕ) {A : Type 0} (answer : ℕ 
 
 -- ---- the entries of a record
 -- they lie in its encoding one after the other, and as many are counted
-counted : (e : Entry) (y : Section (tableOf e)) → WellFormed (tableOf e) y
-    → ((countOf e (encode y) ≡ length (entriesOf e y)) × (firstOf e (encode y) ≡ beginOf e y))
+counted : (e : Entry) (y : Section (kindOfEntry e)) → WellFormed (kindOfEntry e) y
+    → ((entryCount e (encode y) ≡ length (entriesOf e y)) × (firstEntry e (encode y) ≡ beginOf e y))
     × Stand (recordOf e) (encode y) (length (encode y) - 4) (beginOf e y) (entriesOf e y)
-unfolding countOf firstOf
+unfolding entryCount firstEntry
 counted Table y o =
     let t = mgts.entries-there (encode y) (encode-bytes _ y o) (startOf Table) (length (encode y) - 4) (y .body) (o .body) (body-lies _ y o) (body-ends _ y o) in
     ((t .0, refl), t .1)
@@ -76,7 +77,7 @@ same-walk Channel s end a = refl
 same-walk Dimension s end a = refl
 same-walk Event s end a = refl
 
-module _ (e : Entry) (y : Section (tableOf e)) (o : WellFormed (tableOf e) y) where
+module _ (e : Entry) (y : Section (kindOfEntry e)) (o : WellFormed (kindOfEntry e) y) where
   -- the walk past i of them
   entry-walk : (i : ℕ) → entryWalk e (encode y) i ≡ many (walks (recordOf e) (encode y) (length (encode y) - 4)) i (beginOf e y)
   unfolding entryWalk
@@ -89,19 +90,19 @@ module _ (e : Entry) (y : Section (tableOf e)) (o : WellFormed (tableOf e) y) wh
     pub spot-in-told : (i : ℕ) → after (spotIn e (encode y) i) answer ≡ ofEntry e told i y
     unfolding spotIn
     spot-in-told i =
-        ap (λ w. after (ifLt i (countOf e (encode y)) (standing w) (refused 13)) answer) (entry-walk i)
+        ap (λ w. after (ifLt i (entryCount e (encode y)) (standing w) (refused 13)) answer) (entry-walk i)
         ∙ counted-told (recordOf e) (encode y) (length (encode y) - 4) answer told same (beginOf e y) (entriesOf e y) (counted e y o .1) i
-        (countOf e (encode y)) (counted e y o .0 .0)
+        (entryCount e (encode y)) (counted e y o .0 .0)
 
     pub spot-told : (i : ℕ) → after (spotOf e (encode y) i) answer ≡ ofEntry e told i y
     unfolding spotOf after
-    spot-told i = rw (accepts (tableOf e) y o) (spot-in-told i)
+    spot-told i = rw (accepts (kindOfEntry e) y o) (spot-in-told i)
 
   -- their number, where the first begins, how they lie, and what follows them all
-  pub count-there : countOf e (encode y) ≡ length (entriesOf e y)
+  pub count-there : entryCount e (encode y) ≡ length (entriesOf e y)
   count-there = counted e y o .0 .0
 
-  pub first-there : firstOf e (encode y) ≡ beginOf e y
+  pub first-there : firstEntry e (encode y) ≡ beginOf e y
   first-there = counted e y o .0 .1
 
   pub entries-stand : Stand (recordOf e) (encode y) (length (encode y) - 4) (beginOf e y) (entriesOf e y)
@@ -110,9 +111,9 @@ module _ (e : Entry) (y : Section (tableOf e)) (o : WellFormed (tableOf e) y) wh
   pub rest-there : restIn e (encode y) ≡ result (beginOf e y + length (encs (recordOf e .enc) (entriesOf e y)))
   unfolding restIn
   rest-there =
-      ap standing (entry-walk (countOf e (encode y)))
+      ap standing (entry-walk (entryCount e (encode y)))
       ∙ ap (λ n. standing (many (walks (recordOf e) (encode y) (length (encode y) - 4)) n (beginOf e y))) count-there
-      ∙ ap standing (all-walk (recordOf e) (encode y) (length (encode y) - 4) (beginOf e y) (entriesOf e y) (counted e y o .1))
+      ∙ sym (standing-to _ _ (all-walk (recordOf e) (encode y) (length (encode y) - 4) (beginOf e y) (entriesOf e y) (counted e y o .1)))
 
 -- ---- the values of a dimension that lies at d
 value-walk : (s : List ℕ) (end a : ℕ) → walks value s end a ≡ walks valueFormat s end a

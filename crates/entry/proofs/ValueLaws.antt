@@ -8,9 +8,9 @@ use native.Mathlib.Omega.{arith}
 use lib.ListN.{length}
 use Rattle.bytes_at.specs.declared.Walk.the-variants.{To}
 use Rattle.bytes_at.specs.Fields.{byteAt}
-use Rattle.bytes_at.specs.Walks.{many, Stands}
+use Rattle.bytes_at.specs.Walks.{many, Stands, standing}
 use Rattle.bytes_at.proofs.FieldLaws.{past}
-use Rattle.bytes_at.proofs.WalkLaws.{many-in, reached, stands-at}
+use Rattle.bytes_at.proofs.WalkLaws.{many-in, reached, stands-at, standing-is, standing-to}
 use Rattle.logic.proofs.ChoiceLaws.{lt-yes}
 use Rattle.refusal.specs.Outcomes.{refused, result}
 use Rattle.format.specs.Formats.{walks}
@@ -19,8 +19,7 @@ use Rattle.rrt.specs.Format.{value, dimension}
 use Rattle.rrt.specs.Fields.{valuesAt, firstValueAt}
 use Rattle.rrt.proofs.WalkLaws.{value-forward, values-walked}
 use Rattle.section.proofs.PassLaws.{is-less}
-use Rattle.entry.specs.Entries.{standing, valueSpot}
-use Rattle.entry.proofs.EntryLaws.{standing-is}
+use Rattle.entry.specs.Entries.{valueSpot}
 
 -- a byte that is not 0 is there
 present : (s : List ℕ) (i : ℕ) → 0 < byteAt s i → i < length s
@@ -39,7 +38,7 @@ module _ (s : List ℕ) (d b : ℕ) (w : walks dimension s (length s - 4) d ≡ 
       let v = values-walked s (length s - 4) d b w .0 in
       let r = reached _ j (valuesAt s d) (firstValueAt s d) b (omega arith) v in (
         r .0,
-        sym (lt-yes j (valuesAt s d) (standing (many (walks value s (length s - 4)) j (firstValueAt s d))) (refused 13) {r = result (r .0)} l (sym (ap standing (r .1)))),
+        sym (lt-yes j (valuesAt s d) (standing (many (walks value s (length s - 4)) j (firstValueAt s d))) (refused 13) {r = result (r .0)} l (standing-to _ _ (r .1))),
       )
 
   pub value-stands : (j a : ℕ) → valueSpot s d j ≡ result a → Stands (walks value s (length s - 4) a)

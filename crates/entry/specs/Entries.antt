@@ -4,8 +4,7 @@ use mathlib.Core.List.{List}
 use lib.ListN.{length}
 use Rattle.logic.specs.Choices.{ifLt}
 use Rattle.bytes_at.specs.declared.Walk.{Walk}
-use Rattle.bytes_at.specs.declared.Walk.the-variants.{To, Bad}
-use Rattle.bytes_at.specs.Walks.{many}
+use Rattle.bytes_at.specs.Walks.{many, standing}
 use Rattle.refusal.specs.Numbers.{numberOf}
 use Rattle.refusal.specs.Outcomes.{Outcome, refused, result, after}
 use Rattle.kind.specs.declared.Kind.{Kind}
@@ -26,15 +25,16 @@ use Rattle.entry.specs.declared.Entry.the-variants.{Table, Channel, Dime
 use Rattle.entry.specs.declared.Spot.{Spot}
 use Rattle.entry.specs.declared.Spot.the-variants.{Refused, At}
 
+-- ---- the entries that tables repeat
 -- the kind of table that repeats the entry, and where its body starts
-abbrev pub tableOf : Entry → Kind
-tableOf Table = Mgt
-tableOf Channel = Tvct
-tableOf Dimension = Rrt
-tableOf Event = Eit
+abbrev pub kindOfEntry : Entry → Kind
+kindOfEntry Table = Mgt
+kindOfEntry Channel = Tvct
+kindOfEntry Dimension = Rrt
+kindOfEntry Event = Eit
 
 abbrev pub startOf : Entry → ℕ
-startOf e = limitsOf (tableOf e) .body
+startOf e = limitsOf (kindOfEntry e) .body
 
 -- the entry's format
 unfoldable pub formatOf : Entry → Format One
@@ -44,37 +44,33 @@ formatOf Dimension = dimension
 formatOf Event = event
 
 -- how many entries a section has, and where the first begins
-unfoldable pub countOf : Entry → List ℕ → ℕ
-countOf Table s = mgts.countAt s (startOf Table)
-countOf Channel s = tvcts.countAt s (startOf Channel)
-countOf Dimension s = rrts.countAt s (startOf Dimension)
-countOf Event s = eits.countAt s (startOf Event)
+unfoldable pub entryCount : Entry → List ℕ → ℕ
+entryCount Table s = mgts.countAt s (startOf Table)
+entryCount Channel s = tvcts.countAt s (startOf Channel)
+entryCount Dimension s = rrts.countAt s (startOf Dimension)
+entryCount Event s = eits.countAt s (startOf Event)
 
-unfoldable pub firstOf : Entry → List ℕ → ℕ
-firstOf Table s = mgts.firstAt (startOf Table)
-firstOf Channel s = tvcts.firstAt (startOf Channel)
-firstOf Dimension s = rrts.firstAt s (startOf Dimension)
-firstOf Event s = eits.firstAt (startOf Event)
+unfoldable pub firstEntry : Entry → List ℕ → ℕ
+firstEntry Table s = mgts.firstAt (startOf Table)
+firstEntry Channel s = tvcts.firstAt (startOf Channel)
+firstEntry Dimension s = rrts.firstAt s (startOf Dimension)
+firstEntry Event s = eits.firstAt (startOf Event)
 
+-- ---- where entry i begins
 -- entry i begins where the walk past i entries stands
 unfoldable pub entryWalk : Entry → List ℕ → ℕ → Walk
-entryWalk e s i = many (walks (formatOf e) s (length s - 4)) i (firstOf e s)
+entryWalk e s i = many (walks (formatOf e) s (length s - 4)) i (firstEntry e s)
 
--- where a walk stands (in a section that was judged it always stands: the laws `entry-found` and `rest-found`)
-abbrev pub standing : Walk → Outcome ℕ
-standing (To a) = result a
-standing (Bad x) = refused 9
-
--- 13 where there is no entry i
+-- 13 where there is no entry i. In a section that was judged the walk always stands: laws `entry-found` and `rest-found`
 unfoldable pub spotIn : Entry → List ℕ → ℕ → Outcome ℕ
-spotIn e s i = ifLt i (countOf e s) (standing (entryWalk e s i)) (refused 13)
+spotIn e s i = ifLt i (entryCount e s) (standing (entryWalk e s i)) (refused 13)
 
 unfoldable pub spotOf : Entry → List ℕ → ℕ → Outcome ℕ
-spotOf e s i = after (sectionBy (onlyOf (tableOf e)) s) (λ h. spotIn e s i)
+spotOf e s i = after (sectionBy (onlyOf (kindOfEntry e)) s) (λ h. spotIn e s i)
 
 -- where all entries are passed: what follows them begins there
 unfoldable pub restIn : Entry → List ℕ → Outcome ℕ
-restIn e s = standing (entryWalk e s (countOf e s))
+restIn e s = standing (entryWalk e s (entryCount e s))
 
 -- value j of an RRT's dimension that begins at d: it begins where the walk past j values stands; 13 where there is none
 unfoldable pub valueSpot : List ℕ → ℕ → ℕ → Outcome ℕ

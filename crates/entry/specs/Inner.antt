@@ -5,12 +5,12 @@ use lib.ListN.{length}
 use Rattle.entry.specs.declared.Entry.{Entry}
 use Rattle.entry.specs.declared.Spot.{Spot}
 use Rattle.entry.specs.declared.Spot.the-variants.{Refused, At}
-use Rattle.entry.specs.Entries.{startOf, firstOf}
+use Rattle.entry.specs.Entries.{startOf, firstEntry}
 
 -- the body and the first entry begin within the bytes
 pub record Begins (e : Entry) (s : List ℕ) : Type 0 where
   pub body : startOf e ≤ length s
-  pub first : firstOf e s ≤ length s
+  pub first : firstEntry e s ≤ length s
 
 -- a spot stands within the bytes
 abbrev pub Inside : List ℕ → Spot → Type 0

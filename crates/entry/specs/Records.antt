@@ -15,7 +15,7 @@ use Rattle.eit.specs.Fields as eits
 use Rattle.section.specs.Encoding.{Section}
 use Rattle.entry.specs.declared.Entry.{Entry}
 use Rattle.entry.specs.declared.Entry.the-variants.{Table, Channel, Dimension, Event}
-use Rattle.entry.specs.Entries.{tableOf, startOf}
+use Rattle.entry.specs.Entries.{kindOfEntry, startOf}
 
 -- the entry's format, with its record as values
 abbrev pub recordOf : Entry → Format One
@@ -25,20 +25,20 @@ recordOf Dimension = dimensionFormat
 recordOf Event = eventFormat
 
 -- the entries of a section, and where the first begins
-abbrev pub entriesOf : (e : Entry) → Section (tableOf e) → List (recordOf e .Val)
+abbrev pub entriesOf : (e : Entry) → Section (kindOfEntry e) → List (recordOf e .Val)
 entriesOf Table y = y .body .tables
 entriesOf Channel y = y .body .channels
 entriesOf Dimension y = y .body .dimensions
 entriesOf Event y = y .body .events
 
-abbrev pub beginOf : (e : Entry) → Section (tableOf e) → ℕ
+abbrev pub beginOf : (e : Entry) → Section (kindOfEntry e) → ℕ
 beginOf Table y = mgts.firstAt (startOf Table)
 beginOf Channel y = tvcts.firstAt (startOf Channel)
 beginOf Dimension y = firstFor (startOf Dimension) (y .body)
 beginOf Event y = eits.firstAt (startOf Event)
 
 -- what is told of entry i, by its place and its record; 13 where there is none
-abbrev pub ofEntry : (e : Entry) {A : Type 0} → (ℕ → recordOf e .Val → Outcome A) → ℕ → Section (tableOf e) → Outcome A
+abbrev pub ofEntry : (e : Entry) {A : Type 0} → (ℕ → recordOf e .Val → Outcome A) → ℕ → Section (kindOfEntry e) → Outcome A
 ofEntry e told i y = nthOf (recordOf e .enc) told (refused 13) (beginOf e y) (entriesOf e y) i
 
 -- what is told of value j of an RRT's dimension that begins at d

@@ -9,7 +9,8 @@ use section::judge_kind;
 ghost use mathlib.Core.Path.{_≡_};
 ghost use Prim.Native.Nat.{_≤_};
 ghost use lib.ListN.{length};
-ghost use Rattle.entry.specs.Entries.{tableOf, countOf, firstOf, entryWalk, standing, spotIn, spotOf, restIn, valueSpot, spotOutcome};
+ghost use Rattle.bytes_at.specs.Walks.{standing};
+ghost use Rattle.entry.specs.Entries.{kindOfEntry, entryCount, firstEntry, entryWalk, spotIn, spotOf, restIn, valueSpot, spotOutcome};
 ghost use Rattle.entry.specs.Inner.{Begins, Inside};
 
 pub enum Entry {
@@ -27,7 +28,7 @@ pub enum Spot {
 
 // The kind of table that repeats the entry.
 fn table_of(entry: Entry) -> Kind
-    ensures { λ r. ⌜ r ≡ tableOf entry ⌝ }
+    ensures { λ r. ⌜ r ≡ kindOfEntry entry ⌝ }
 {
     match entry {
         Entry::Table => Kind::Mgt,
@@ -40,7 +41,7 @@ fn table_of(entry: Entry) -> Kind
 // How many entries a section that was judged has.
 pub fn count_of(s: &[u8], entry: Entry) -> usize
     requires { ⌜ Begins entry (now s) ⌝ }
-    ensures { λ r. ⌜ r ≡ countOf entry (now (s .entry)) ⌝ }
+    ensures { λ r. ⌜ r ≡ entryCount entry (now (s .entry)) ⌝ }
 {
     match entry {
         Entry::Table => mgt::count(s, body_start(Kind::Mgt)),
@@ -53,7 +54,7 @@ pub fn count_of(s: &[u8], entry: Entry) -> usize
 // Where the first begins.
 pub fn first_of(s: &[u8], entry: Entry) -> usize
     requires { ⌜ Begins entry (now s) ⌝ }
-    ensures { λ r. ⌜ r ≡ firstOf entry (now (s .entry)) ⌝ }
+    ensures { λ r. ⌜ r ≡ firstEntry entry (now (s .entry)) ⌝ }
 {
     match entry {
         Entry::Table => mgt::first(body_start(Kind::Mgt)),

@@ -1,4 +1,4 @@
--- What is answered for a value of the format, where its encoding lies at `at`.
+-- SCOPE 2.5: what is answered for a value of the ETT's format, by the record alone, where its encoding lies at a place.
 use Prim.Native.Nat.{ℕ}
 use lib.ListN.{length}
 use Rattle.format.specs.Values.{behind}

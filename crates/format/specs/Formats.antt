@@ -20,6 +20,7 @@ use Rattle.format.specs.Laws.OfHeads.{head-law, seq-law, via-law}
 use Rattle.format.specs.Laws.OfContainers.{filled-law, exact-law, before-law, under-law, any-law, opt-law, choice-law}
 use Rattle.format.specs.Laws.OfRepeats.{times-law, some-law, list-law}
 
+-- ---- what a format is. `law`, and `same` of a reader, are proofs and may be skipped: a format is its `Val`, `Ok`, `enc` and `walk`
 -- what is told where nothing is
 abbrev pub One : Type 0
 One = record {}
@@ -40,6 +41,7 @@ pub record Filling (C : Type 0) : Type 1 where
   pub walk : C → Walker
   pub law : (c : C) → Fills (walk c) (Ok c) enc
 
+-- ---- readers: what a head tells of what follows it
 -- what is read of a head of k bytes by a walk that stands behind it: the same wherever the head stands
 pub record Reader (k : ℕ) (C : Type 0) : Type 0 where
   pub read : List ℕ → ℕ → C
@@ -80,6 +82,7 @@ both q r = record {
   same = λ s at h o l. let x = q .same s at h o l in let y = r .same s at h o l in λ i. (x i, y i);
 }
 
+-- ---- fields and heads
 -- fields of these widths, together k bytes
 abbrev pub fields : (ns : List ℕ) (k : ℕ) → total ns ≡ 8 * k → Format One
 fields ns k whole = record {
@@ -100,6 +103,7 @@ head ns k whole r f = record {
   law = λ u. head-law ns k whole (r .read) (r .same) (f .law);
 }
 
+-- ---- containers
 -- as many bytes as are told by a length field `back` bytes before
 abbrev pub raw : ℕ → Format ℕ
 raw back = record {
@@ -130,6 +134,7 @@ filledBy back f = record {
   law = λ n. filled-law back (n .0) (f .law (n .1));
 }
 
+-- ---- one after the other, and several times
 -- one and then the other
 abbrev pub seq : Format One → Format One → Format One
 seq f g = record {
@@ -160,6 +165,7 @@ some back f = record {
   law = λ n. some-law back n (times-law (f .law (record {})) n);
 }
 
+-- ---- what fills a container
 -- a format and nothing after it
 abbrev pub exact : Format One → Filling One
 exact f = record {
@@ -181,8 +187,8 @@ before f g = record {
 }
 
 -- whatever bytes there are
-abbrev pub any : Filling One
-any = record { Val = List ℕ; Ok = λ u x. Bytes x; enc = λ x. x; walk = λ u s end at. To end; law = λ u. any-law }
+abbrev pub anyBytes : Filling One
+anyBytes = record { Val = List ℕ; Ok = λ u x. Bytes x; enc = λ x. x; walk = λ u s end at. To end; law = λ u. any-law }
 
 -- one or the other, by a test on what is told
 abbrev pub choice : {C : Type 0} → (C → Bool) → Filling One → Filling One → Filling C
@@ -218,15 +224,16 @@ list f full = record {
   law = λ u. list-law (f .law u) full;
 }
 
+-- ---- the same bytes and walk under other values
 -- how new values stand for the old ones of a format: each well-formed x is that of exactly one y
-pub record Reading (X : Type 0) (Ok : X → Type 0) (Y : Type 0) (OkY : Y → Type 0) : Type 0 where
+pub record Recast (X : Type 0) (Ok : X → Type 0) (Y : Type 0) (OkY : Y → Type 0) : Type 0 where
   pub to : Y → X
   pub good : (y : Y) → OkY y → Ok (to y)
   pub onto : (x : X) → Ok x → (y : Y) × (OkY y × (to y ≡ x))
   pub inj : (y z : Y) → OkY y → OkY z → to y ≡ to z → y ≡ z
 
 -- the same bytes and walk with other values
-abbrev pub via : (f : Format One) {Y : Type 0} {OkY : Y → Type 0} → Reading (f .Val) (f .Ok (record {})) Y OkY → Format One
+abbrev pub via : (f : Format One) {Y : Type 0} {OkY : Y → Type 0} → Recast (f .Val) (f .Ok (record {})) Y OkY → Format One
 via f {Y} {OkY} r = record {
   Val = Y;
   Ok = λ u. OkY;

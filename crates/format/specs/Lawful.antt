@@ -14,6 +14,7 @@ use Rattle.logic.specs.Choices.{pick}
 use Rattle.bytes_at.specs.Fields.{byteAt}
 use Rattle.bytes_at.specs.Walks.{then, ends}
 
+-- ---- the laws of a format
 -- a walk through a section: the bytes, the container's end, and the place where it starts
 abbrev pub Walker : Type 0
 Walker = List ℕ → ℕ → ℕ → Walk
@@ -53,6 +54,7 @@ pub record Fills {X : Type 0} (W : Walker) (Ok : X → Type 0) (enc : X → List
   pub whole : (s : List ℕ) (end at e : ℕ) → W s end at ≡ To e → e ≡ end
   pub bytes : (x : X) → Ok x → Bytes (enc x)
 
+-- ---- parts that stand several times, may be missing, or are of two kinds
 -- the bits of fields of these widths
 abbrev pub total : List ℕ → ℕ
 total [] = 0

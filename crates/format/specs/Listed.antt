@@ -11,9 +11,9 @@ nthOf enc told absent a (x ∷ xs) zero = told a x
 nthOf enc told absent a (x ∷ xs) (suc i) = nthOf enc told absent (a + length (enc x)) xs i
 
 -- of the first whose key is n
-unfoldable pub firstOf : {X A : Type 0} → (X → List ℕ) → (X → ℕ) → ℕ → (ℕ → X → A) → A → ℕ → List X → A
-firstOf enc key n told absent a [] = absent
-firstOf enc key n told absent a (x ∷ xs) = ifEq (key x) n (told a x) (firstOf enc key n told absent (a + length (enc x)) xs)
+unfoldable pub firstWith : {X A : Type 0} → (X → List ℕ) → (X → ℕ) → ℕ → (ℕ → X → A) → A → ℕ → List X → A
+firstWith enc key n told absent a [] = absent
+firstWith enc key n told absent a (x ∷ xs) = ifEq (key x) n (told a x) (firstWith enc key n told absent (a + length (enc x)) xs)
 
 -- the same where the place is not told
 unfoldable pub sought : {X A : Type 0} → (X → ℕ) → ℕ → (X → A) → A → List X → A

@@ -6,7 +6,7 @@ use native.Mathlib.Omega.{arith}
 use lib.ListN.{length, take}
 use lib.Seq.{take-all, take-length}
 use Rattle.format.specs.Lawful.{Lies, Bytes}
-use Rattle.format.specs.Formats.{One, Format, Reading, fields, via}
+use Rattle.format.specs.Formats.{One, Format, Recast, fields, via}
 use Rattle.bytes_at.specs.Bits.{bitsAt}
 use Rattle.format.specs.Values.{Field, bits, width, steps, Vals, Fit, number, bytesOf, valsAt}
 use Rattle.format.specs.Laws.OfValues.{steps-width, number-lt, number-once, vals-fit, vals-number, bytes-length, bytes-bytes, lies-number, bytes-part}
@@ -27,7 +27,7 @@ module _ (fs : List Field) (k : ℕ) (whole : width fs ≡ 8 * k) where
   vals-back x h z =
       ap (bytesOf k) (vals-number fs x 0 ∙ ap (bitsAt x 0) whole) ∙ bytes-part k x 0 z (omega arith) ∙ take-all k x (omega arith)
 
-  abbrev pub of-fields : Reading (List ℕ) (λ x. (length x ≡ k) × Bytes x) (Vals fs) (Fit fs)
+  abbrev pub of-fields : Recast (List ℕ) (λ x. (length x ≡ k) × Bytes x) (Vals fs) (Fit fs)
   of-fields = record {
     to = λ v. bytesOf k (number fs v);
     good = λ v o. (bytes-length k (number fs v), bytes-bytes k (number fs v) (below v o));

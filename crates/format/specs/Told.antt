@@ -1,5 +1,8 @@
 -- A head of fields whose last is a length or a count of what follows. The value has the other fields and what follows; the last
--- field is no value of its own, for `tally` tells it of what follows.
+-- field is no value of its own, for `tally` tells it of what follows. Of `told fs n k .. c .. f tally ..`, with fields fs, a last one of n bits, k bytes in
+-- all, and a format f of which the head tells c: a value is (v, x), a number for each of the fields fs and a value of f; its bytes are `headBytes v
+-- (tally x) ++ f .enc x`; it is well formed where v fits its fields, `tally x < 2 ^ n`, and x is well formed for `c v (tally x)` (`OkTold`). All else up to
+-- the last banner is laws, and may be skipped; there stand the heads that tables have.
 use Prim.Native.Nat.{ℕ, suc, _+_, _-_, _*_, _%_, _^_, _<_}
 use mathlib.Core.Path.{_≡_, refl, sym, ap, _∙_}
 use mathlib.Core.List.{List, [], _∷_, _++_}
@@ -9,7 +12,7 @@ use lib.Seq.{take-all, take-length}
 use Rattle.bytes_at.specs.Fields.{byteAt, wordAt}
 use Rattle.format.specs.Lawful.{Lies, Bytes, total}
 use Rattle.format.specs.Laws.OfBytes.{lies-at, lies-split}
-use Rattle.format.specs.Formats.{One, Format, Filling, Reader, Reading, last, lastWord, Full, through, head, raw, filled, times, some, via}
+use Rattle.format.specs.Formats.{One, Format, Filling, Reader, Recast, last, lastWord, Full, through, head, raw, filled, times, some, via}
 use Rattle.bytes_at.specs.Bits.{bitsAt}
 use Rattle.bytes_at.proofs.BitLaws.{bits-lt, bits-add, bits-low, byte-bits, word-bits}
 use Rattle.format.specs.Values.{Field, bits, reserved, width, steps, Vals, Fit, number, bytesOf, valsAt}
@@ -84,7 +87,7 @@ module _ {C : Type 0} (fs : List Field) (n k : ℕ) (whole : width fs + n ≡ 8 
       sym (head-here fs n k whole u (tally x) (o .0) (o .1 .0) .0) ∙ ap (λ h. valsAt fs h 0 0) e
       ∙ head-here fs n k whole v (tally y) (r .0) (r .1 .0) .0
 
-  abbrev pub of-told : Reading (List ℕ × f .Val) (λ x. ((length (x .0) ≡ k) × Bytes (x .0)) × f .Ok (r .read (x .0) k) (x .1)) (Vals fs × f .Val) OkTold
+  abbrev pub of-told : Recast (List ℕ × f .Val) (λ x. ((length (x .0) ≡ k) × Bytes (x .0)) × f .Ok (r .read (x .0) k) (x .1)) (Vals fs × f .Val) OkTold
   of-told = record {
     to = λ y. (headBytes fs n k whole (y .0) (tally (y .1)), y .1);
     good = λ y o. (

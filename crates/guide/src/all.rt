@@ -1,28 +1,13 @@
 // All entries of a table, a row of numbers for each.
-use crate::told::number_of;
-use crate::told::one;
 use rows::Row;
-use rows::RowsAnswer;
 use rows::rows;
 use rows::value_rows;
+use telling::all::tell_count;
 ghost use mathlib.Core.Path.{_≡_};
 ghost use lib.ListN.{length};
-ghost use Rattle.rows.specs.Rows.{rowsOf, withRows, rowsOutcome};
+ghost use Rattle.rows.specs.Rows.{rowsOf, withRows};
 ghost use Rattle.rows.specs.Values.{valueRowsOf, withValueRows};
-ghost use Rattle.guide.specs.Told.{Told, oneNumber};
-
-// How many rows there are is told.
-fn tell_count(answer: RowsAnswer, count: &mut [u32; 1]) -> u32
-    ensures { λ r. ⌜ Told oneNumber (rowsOutcome answer) (now (count .entry)) r (now (count .exit)) ⌝ }
-{
-    match answer {
-        RowsAnswer::Refused(k) => number_of(k),
-        RowsAnswer::Are(n) => {
-            *count = one(n);
-            0
-        }
-    }
-}
+ghost use Rattle.telling.specs.Told.{Told, oneNumber};
 
 // Of the defined tables of an MGT.
 #[no_mangle]

@@ -1,11 +1,8 @@
 // The strings of a text field by itself.
-use crate::told::number_of;
-use crate::told::one;
-use crate::told::two;
-use crate::told::wide;
-use text::Count;
-use text::Headed;
-use text::Units;
+use telling::fields::tell_amount;
+use telling::fields::tell_count;
+use telling::fields::tell_heading;
+use telling::told::wide;
 use text::count_strings;
 use text::string_heading;
 use text::string_text;
@@ -13,47 +10,10 @@ use text::string_units;
 ghost use mathlib.Core.Path.{_≡_};
 ghost use lib.ListN.{length};
 ghost use Rattle.refusal.specs.Outputs.{outputAfter};
-ghost use Rattle.text.specs.Answers.{countOutcome, unitsOutcome, headingOutcome, amountOf};
+ghost use Rattle.text.specs.Answers.{amountOf};
 ghost use Rattle.text.specs.Texts.{fitting, fieldCount, fieldUnits, fieldReplaced, fieldHeading};
-ghost use Rattle.guide.specs.Told.{Told, oneNumber};
-ghost use Rattle.guide.specs.Fields.{headingNumbers, amountNumbers};
-
-// What was answered about a text, told: by every call over texts.
-pub fn tell_count(answer: Count, told: &mut [u32; 1]) -> u32
-    ensures { λ r. ⌜ Told oneNumber (countOutcome answer) (now (told .entry)) r (now (told .exit)) ⌝ }
-{
-    match answer {
-        Count::Refused(k) => number_of(k),
-        Count::Is(n) => {
-            *told = one(n);
-            0
-        }
-    }
-}
-
-pub fn tell_heading(answer: Headed, told: &mut [u32; 2]) -> u32
-    ensures { λ r. ⌜ Told headingNumbers (headingOutcome answer) (now (told .entry)) r (now (told .exit)) ⌝ }
-{
-    match answer {
-        Headed::Refused(k) => number_of(k),
-        Headed::Is(h) => {
-            *told = two(h.language, h.segments);
-            0
-        }
-    }
-}
-
-pub fn tell_amount(answer: Units, told: &mut [u32; 2]) -> u32
-    ensures { λ r. ⌜ Told amountNumbers (unitsOutcome answer) (now (told .entry)) r (now (told .exit)) ⌝ }
-{
-    match answer {
-        Units::Refused(k) => number_of(k),
-        Units::Are(a) => {
-            *told = two(a.units, a.replaced);
-            0
-        }
-    }
-}
+ghost use Rattle.telling.specs.Told.{Told, oneNumber};
+ghost use Rattle.telling.specs.Fields.{headingNumbers, amountNumbers};
 
 // The number of strings.
 #[no_mangle]

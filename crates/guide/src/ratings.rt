@@ -1,74 +1,17 @@
 // What is asked of an event, or of its descriptor list by itself.
-use crate::told::NO_VALUE;
-use crate::told::number_of;
-use crate::told::three;
-use crate::told::two;
-use crate::told::wide;
-use rating::Rating;
-use reading::eits::DescriptorAnswer;
-use reading::eits::RatingAnswer;
-use reading::eits::TextAnswer;
 use reading::eits::advisory_text;
 use reading::eits::descriptor;
 use reading::eits::list_descriptor;
 use reading::eits::list_rating;
 use reading::eits::list_text;
 use reading::eits::rating;
-ghost use mathlib.Core.Path.{_≡_};
-ghost use mathlib.Core.List.{map};
-ghost use Rattle.rating.specs.Ratings.{ratedOf};
-ghost use Rattle.reading.specs.Eits.{ratingOutcome, ratingOf, descriptorOutcome, descriptorOf, textOutcome, advisoryTextOf, listRating, listDescriptor, listText};
-ghost use Rattle.guide.specs.Told.{Told, noted};
-ghost use Rattle.guide.specs.Ratings.{ratingNumbers, descriptorNumbers, textNumbers};
-
-// An answer without a value is never told as the value 0.
-fn rating_numbers(rating: Rating) -> [u32; 2]
-    ensures { λ r. ⌜ r ≡ map noted (ratingNumbers (ratedOf rating)) ⌝ }
-{
-    match rating {
-        Rating::NoAdvisory => two(1, NO_VALUE),
-        Rating::RegionAbsent => two(2, NO_VALUE),
-        Rating::DimensionAbsent => two(3, NO_VALUE),
-        Rating::Value(v) => two(4, v),
-    }
-}
-
-// Each sort of answer, as it is told.
-fn tell_rating(answer: RatingAnswer, told: &mut [u32; 2]) -> u32
-    ensures { λ r. ⌜ Told ratingNumbers (ratingOutcome answer) (now (told .entry)) r (now (told .exit)) ⌝ }
-{
-    match answer {
-        RatingAnswer::Refused(k) => number_of(k),
-        RatingAnswer::Is(r) => {
-            *told = rating_numbers(r);
-            0
-        }
-    }
-}
-
-fn tell_descriptor(answer: DescriptorAnswer, told: &mut [u32; 3]) -> u32
-    ensures { λ r. ⌜ Told descriptorNumbers (descriptorOutcome answer) (now (told .entry)) r (now (told .exit)) ⌝ }
-{
-    match answer {
-        DescriptorAnswer::Refused(k) => number_of(k),
-        DescriptorAnswer::Is(tag, p) => {
-            *told = three(tag, p.start, p.length);
-            0
-        }
-    }
-}
-
-fn tell_text(answer: TextAnswer, told: &mut [u32; 2]) -> u32
-    ensures { λ r. ⌜ Told textNumbers (textOutcome answer) (now (told .entry)) r (now (told .exit)) ⌝ }
-{
-    match answer {
-        TextAnswer::Refused(k) => number_of(k),
-        TextAnswer::Is(p) => {
-            *told = two(p.start, p.length);
-            0
-        }
-    }
-}
+use telling::ratings::tell_descriptor;
+use telling::ratings::tell_rating;
+use telling::ratings::tell_text;
+use telling::told::wide;
+ghost use Rattle.reading.specs.Eits.{ratingOf, descriptorOf, advisoryTextOf, listRating, listDescriptor, listText};
+ghost use Rattle.telling.specs.Told.{Told};
+ghost use Rattle.telling.specs.Ratings.{ratingNumbers, descriptorNumbers, textNumbers};
 
 // The rating of event i for a region and a dimension.
 #[no_mangle]

@@ -1,59 +1,34 @@
 // The fields of the tables and of their entries.
-use crate::told::NO_VALUE;
-use crate::told::four;
-use crate::told::note;
-use crate::told::number_of;
-use crate::told::three;
-use crate::told::two;
-use crate::told::wide;
-use channel::Channel;
-use eit::Event;
-use eit::Title;
-use mgt::Defined;
-use part::Part;
 use reading::eits;
 use reading::etts;
 use reading::mgts;
 use reading::rrts;
 use reading::tvcts;
-use rrt::Table;
-ghost use mathlib.Core.Path.{_≡_};
-ghost use mathlib.Core.List.{map};
+use telling::tables::tell_channel;
+use telling::tables::tell_defined;
+use telling::tables::tell_dimension;
+use telling::tables::tell_eit;
+use telling::tables::tell_ett;
+use telling::tables::tell_event;
+use telling::tables::tell_mgt;
+use telling::tables::tell_rrt;
+use telling::tables::tell_tvct;
+use telling::tables::tell_value;
+use telling::told::wide;
 ghost use Rattle.reading.specs.Mgts;
 ghost use Rattle.reading.specs.Tvcts;
 ghost use Rattle.reading.specs.Rrts;
 ghost use Rattle.reading.specs.Eits;
 ghost use Rattle.reading.specs.Etts;
-ghost use Rattle.guide.specs.Told.{Told, noted};
-ghost use Rattle.guide.specs.Tables.{mgtNumbers, definedNumbers, tvctNumbers, channelNumbers, rrtNumbers, dimensionNumbers, valueNumbers, eitNumbers, titleSort, titlePlace, eventNumbers, ettNumbers};
+ghost use Rattle.telling.specs.Told.{Told};
+ghost use Rattle.telling.specs.Tables.{mgtNumbers, definedNumbers, tvctNumbers, channelNumbers, rrtNumbers, dimensionNumbers, valueNumbers, eitNumbers, eventNumbers, ettNumbers};
 
 // The count of defined tables and the table's own descriptors.
 #[no_mangle]
 pub extern "C" fn guide_mgt(s: &[u8], fields: &mut [u32; 3]) -> u32
     ensures { λ r. ⌜ Told mgtNumbers (Mgts.fieldsOf (now (s .entry))) (now (fields .entry)) r (now (fields .exit)) ⌝ }
 {
-    match mgts::fields(s) {
-        mgts::TableAnswer::Refused(k) => number_of(k),
-        mgts::TableAnswer::Are(t) => {
-            let d = t.descriptors;
-            *fields = three(t.tables_defined, d.start, d.length);
-            0
-        }
-    }
-}
-
-fn defined_numbers(t: Defined) -> [u32; 6]
-    ensures { λ r. ⌜ r ≡ map noted (definedNumbers t) ⌝ }
-{
-    let d = t.descriptors;
-    [
-        note(t.table_type),
-        note(t.pid),
-        note(t.version),
-        note(t.number_bytes),
-        note(d.start),
-        note(d.length),
-    ]
+    tell_mgt(mgts::fields(s), fields)
 }
 
 // Defined table i.
@@ -61,13 +36,7 @@ fn defined_numbers(t: Defined) -> [u32; 6]
 pub extern "C" fn guide_mgt_table(s: &[u8], i: u32, fields: &mut [u32; 6]) -> u32
     ensures { λ r. ⌜ Told definedNumbers (Mgts.entryOf (now (s .entry)) i) (now (fields .entry)) r (now (fields .exit)) ⌝ }
 {
-    match mgts::entry(s, wide(i)) {
-        mgts::EntryAnswer::Refused(k) => number_of(k),
-        mgts::EntryAnswer::Is(t) => {
-            *fields = defined_numbers(t);
-            0
-        }
-    }
+    tell_defined(mgts::entry(s, wide(i)), fields)
 }
 
 // The transport stream, the count of channels and the table's own descriptors.
@@ -75,47 +44,7 @@ pub extern "C" fn guide_mgt_table(s: &[u8], i: u32, fields: &mut [u32; 6]) -> u3
 pub extern "C" fn guide_tvct(s: &[u8], fields: &mut [u32; 4]) -> u32
     ensures { λ r. ⌜ Told tvctNumbers (Tvcts.fieldsOf (now (s .entry))) (now (fields .entry)) r (now (fields .exit)) ⌝ }
 {
-    match tvcts::fields(s) {
-        tvcts::TableAnswer::Refused(k) => number_of(k),
-        tvcts::TableAnswer::Are(t) => {
-            let d = t.descriptors;
-            *fields = four(t.tsid, t.count, d.start, d.length);
-            0
-        }
-    }
-}
-
-// The numbers of 32 bits are told as they are.
-fn channel_numbers(c: Channel) -> [u32; 21]
-    ensures { λ r. ⌜ r ≡ map noted (channelNumbers c) ⌝ }
-{
-    let n = c.name;
-    let t = c.tuning;
-    let v = c.service;
-    let d = c.descriptors;
-    [
-        n.n0,
-        n.n1,
-        n.n2,
-        n.n3,
-        n.n4,
-        n.n5,
-        n.n6,
-        t.major,
-        t.minor,
-        t.modulation,
-        t.carrier,
-        t.channel_tsid,
-        t.program_number,
-        v.etm_location,
-        v.access_controlled,
-        v.hidden,
-        v.six_bits,
-        v.service_type,
-        v.source_id,
-        note(d.start),
-        note(d.length),
-    ]
+    tell_tvct(tvcts::fields(s), fields)
 }
 
 // Channel i.
@@ -123,29 +52,7 @@ fn channel_numbers(c: Channel) -> [u32; 21]
 pub extern "C" fn guide_tvct_channel(s: &[u8], i: u32, fields: &mut [u32; 21]) -> u32
     ensures { λ r. ⌜ Told channelNumbers (Tvcts.entryOf (now (s .entry)) i) (now (fields .entry)) r (now (fields .exit)) ⌝ }
 {
-    match tvcts::entry(s, wide(i)) {
-        tvcts::EntryAnswer::Refused(k) => number_of(k),
-        tvcts::EntryAnswer::Is(c) => {
-            *fields = channel_numbers(c);
-            0
-        }
-    }
-}
-
-fn rrt_numbers(t: Table) -> [u32; 7]
-    ensures { λ r. ⌜ r ≡ map noted (rrtNumbers t) ⌝ }
-{
-    let name = t.name;
-    let d = t.descriptors;
-    [
-        note(t.extension),
-        note(t.region),
-        note(name.start),
-        note(name.length),
-        note(t.dimensions),
-        note(d.start),
-        note(d.length),
-    ]
+    tell_channel(tvcts::entry(s, wide(i)), fields)
 }
 
 // The region and its name, the count of dimensions and the table's own descriptors.
@@ -153,13 +60,7 @@ fn rrt_numbers(t: Table) -> [u32; 7]
 pub extern "C" fn guide_rrt(s: &[u8], fields: &mut [u32; 7]) -> u32
     ensures { λ r. ⌜ Told rrtNumbers (Rrts.fieldsOf (now (s .entry))) (now (fields .entry)) r (now (fields .exit)) ⌝ }
 {
-    match rrts::fields(s) {
-        rrts::TableAnswer::Refused(k) => number_of(k),
-        rrts::TableAnswer::Are(t) => {
-            *fields = rrt_numbers(t);
-            0
-        }
-    }
+    tell_rrt(rrts::fields(s), fields)
 }
 
 // Dimension i.
@@ -167,14 +68,7 @@ pub extern "C" fn guide_rrt(s: &[u8], fields: &mut [u32; 7]) -> u32
 pub extern "C" fn guide_rrt_dimension(s: &[u8], i: u32, fields: &mut [u32; 4]) -> u32
     ensures { λ r. ⌜ Told dimensionNumbers (Rrts.entryOf (now (s .entry)) i) (now (fields .entry)) r (now (fields .exit)) ⌝ }
 {
-    match rrts::entry(s, wide(i)) {
-        rrts::EntryAnswer::Refused(k) => number_of(k),
-        rrts::EntryAnswer::Is(d) => {
-            let name = d.name;
-            *fields = four(name.start, name.length, d.graduated_scale, d.values);
-            0
-        }
-    }
+    tell_dimension(rrts::entry(s, wide(i)), fields)
 }
 
 // The texts of value j of dimension i.
@@ -182,15 +76,7 @@ pub extern "C" fn guide_rrt_dimension(s: &[u8], i: u32, fields: &mut [u32; 4]) -
 pub extern "C" fn guide_rrt_value(s: &[u8], i: u32, j: u32, fields: &mut [u32; 4]) -> u32
     ensures { λ r. ⌜ Told valueNumbers (Rrts.valueOf (now (s .entry)) i j) (now (fields .entry)) r (now (fields .exit)) ⌝ }
 {
-    match rrts::value(s, wide(i), wide(j)) {
-        rrts::ValueAnswer::Refused(k) => number_of(k),
-        rrts::ValueAnswer::Is(v) => {
-            let short = v.short_text;
-            let long = v.long_text;
-            *fields = four(short.start, short.length, long.start, long.length);
-            0
-        }
-    }
+    tell_value(rrts::value(s, wide(i), wide(j)), fields)
 }
 
 // The source and the count of events.
@@ -198,56 +84,7 @@ pub extern "C" fn guide_rrt_value(s: &[u8], i: u32, j: u32, fields: &mut [u32; 4
 pub extern "C" fn guide_eit(s: &[u8], fields: &mut [u32; 2]) -> u32
     ensures { λ r. ⌜ Told eitNumbers (Eits.fieldsOf (now (s .entry))) (now (fields .entry)) r (now (fields .exit)) ⌝ }
 {
-    match eits::fields(s) {
-        eits::TableAnswer::Refused(k) => number_of(k),
-        eits::TableAnswer::Are(t) => {
-            *fields = two(t.source, t.count);
-            0
-        }
-    }
-}
-
-fn title_sort(title: Title) -> usize
-    ensures { λ r. ⌜ r ≡ titleSort title ⌝ }
-{
-    match title {
-        Title::None => 1,
-        Title::NoStrings => 2,
-        Title::Text(_p) => 3,
-    }
-}
-
-fn title_place(title: Title) -> Part
-    ensures { λ r. ⌜ r ≡ titlePlace title ⌝ }
-{
-    let nowhere = Part {
-        start: NO_VALUE,
-        length: NO_VALUE,
-    };
-    match title {
-        Title::None => nowhere,
-        Title::NoStrings => nowhere,
-        Title::Text(p) => p,
-    }
-}
-
-fn event_numbers(e: Event) -> [u32; 9]
-    ensures { λ r. ⌜ r ≡ map noted (eventNumbers e) ⌝ }
-{
-    let title = e.title;
-    let p = title_place(title);
-    let d = e.descriptors;
-    [
-        note(e.event_id),
-        note(e.start_time),
-        note(e.etm_location),
-        note(e.length_in_seconds),
-        note(title_sort(title)),
-        note(p.start),
-        note(p.length),
-        note(d.start),
-        note(d.length),
-    ]
+    tell_eit(eits::fields(s), fields)
 }
 
 // Event i.
@@ -255,13 +92,7 @@ fn event_numbers(e: Event) -> [u32; 9]
 pub extern "C" fn guide_eit_event(s: &[u8], i: u32, fields: &mut [u32; 9]) -> u32
     ensures { λ r. ⌜ Told eventNumbers (Eits.entryOf (now (s .entry)) i) (now (fields .entry)) r (now (fields .exit)) ⌝ }
 {
-    match eits::entry(s, wide(i)) {
-        eits::EntryAnswer::Refused(k) => number_of(k),
-        eits::EntryAnswer::Is(e) => {
-            *fields = event_numbers(e);
-            0
-        }
-    }
+    tell_event(eits::entry(s, wide(i)), fields)
 }
 
 // The extension, ETM_id and where the text stands.
@@ -269,12 +100,5 @@ pub extern "C" fn guide_eit_event(s: &[u8], i: u32, fields: &mut [u32; 9]) -> u3
 pub extern "C" fn guide_ett(s: &[u8], fields: &mut [u32; 4]) -> u32
     ensures { λ r. ⌜ Told ettNumbers (Etts.fieldsOf (now (s .entry))) (now (fields .entry)) r (now (fields .exit)) ⌝ }
 {
-    match etts::fields(s) {
-        etts::TableAnswer::Refused(k) => number_of(k),
-        etts::TableAnswer::Are(t) => {
-            let p = t.text;
-            *fields = four(t.extension, t.etm_id, p.start, p.length);
-            0
-        }
-    }
+    tell_ett(etts::fields(s), fields)
 }

@@ -1,49 +1,22 @@
 // The strings of a text of a section.
-use crate::fields::tell_amount;
-use crate::fields::tell_count;
-use crate::fields::tell_heading;
-use crate::told::number_of;
-use crate::told::wide;
 use refusal::Refusal;
-use section_text::Which;
 use section_text::count_strings;
 use section_text::string_heading;
 use section_text::string_text;
 use section_text::string_units;
+use telling::fields::tell_amount;
+use telling::fields::tell_count;
+use telling::fields::tell_heading;
+use telling::texts::Sought;
+use telling::texts::which_of;
+use telling::told::number_of;
+use telling::told::wide;
 ghost use mathlib.Core.Path.{_≡_};
 ghost use lib.ListN.{length};
 ghost use Rattle.refusal.specs.Outputs.{outputAfter};
-ghost use Rattle.guide.specs.Told.{Told, oneNumber};
-ghost use Rattle.guide.specs.Fields.{headingNumbers, amountNumbers};
-ghost use Rattle.guide.specs.Texts.{textOf, whichOf, askedCount, askedHeading, askedAmount, fittingAmount, fittingUnits, soughtWhich};
-
-// The text that is asked for, where there is such a kind of text.
-enum Sought {
-    Is(Which),
-    Nothing,
-}
-
-// The kinds by their numbers: `enum guide_text_kind` of guide.h.
-fn text_of(kind: u32, i: usize, j: usize) -> Sought
-    ensures { λ r. ⌜ soughtWhich r ≡ textOf kind i j ⌝ }
-{
-    match kind {
-        1 => Sought::Is(Which::Title(i)),
-        2 => Sought::Is(Which::Advisory(i, j)),
-        3 => Sought::Is(Which::Extended),
-        4 => Sought::Is(Which::RegionName),
-        5 => Sought::Is(Which::DimensionName(i)),
-        6 => Sought::Is(Which::ShortText(i, j)),
-        7 => Sought::Is(Which::LongText(i, j)),
-        _ => Sought::Nothing,
-    }
-}
-
-fn which_of(which: &[u32; 4]) -> Sought
-    ensures { λ r. ⌜ soughtWhich r ≡ whichOf (now (which .entry)) ⌝ }
-{
-    text_of(which[0], wide(which[1]), wide(which[2]))
-}
+ghost use Rattle.telling.specs.Told.{Told, oneNumber};
+ghost use Rattle.telling.specs.Fields.{headingNumbers, amountNumbers};
+ghost use Rattle.telling.specs.Texts.{askedCount, askedHeading, askedAmount, fittingAmount, fittingUnits};
 
 // The number of strings.
 #[no_mangle]

@@ -13,10 +13,10 @@ use Rattle.refusal.proofs.OutcomeLaws.{not-both}
 use Rattle.bytes_at.specs.Fields.{byteAt}
 use Rattle.format.specs.Formats.{One}
 use Rattle.format.specs.Lawful.{Bytes}
-use Rattle.rating.specs.Ratings.{Rated, noAdvisory, regionAbsent, dimensionAbsent, first, descriptorSize, ratedSize, regionSize, ratingIn, textIn, descriptorIn}
+use Rattle.rating.specs.Ratings.{Rated, noAdvisory, regionAbsent, dimensionAbsent, firstMatch, descriptorSize, ratedSize, regionSize, ratingIn, textIn, descriptorIn}
 use Rattle.reading.specs.Eits.{orNone}
-use Rattle.guide.specs.Told.{noted}
-use Rattle.guide.specs.Ratings.{ratingNumbers, descriptorNumbers, textNumbers}
+use Rattle.telling.specs.Told.{noted}
+use Rattle.telling.specs.Ratings.{ratingNumbers, descriptorNumbers, textNumbers}
 use Rattle.guide_laws.proofs.SmallLaws.{Small, whole}
 
 picked-by : {A : Type 0} (P : A → Type 0) (t : Bool) (a b : A) → P a → ((t ≡ false) → P b) → P (pick t a b)
@@ -26,8 +26,8 @@ picked-by P false a b h g = g refl
 -- what holds where nothing matches, and of all that can, holds of the first match
 module _ {A : Type 0} (P : A → Type 0) (s : List ℕ) (size : ℕ → ℕ) (end x : ℕ) (told : ℕ → A) (absent : A) (nothing : P absent)
     (something : (q : ℕ) → q + size q ≤ end → P (told q)) where
-  first-is : (n at : ℕ) → P (first s size n end at x told absent)
-  unfolding first ifLt ifEq
+  first-is : (n at : ℕ) → P (firstMatch s size n end at x told absent)
+  unfolding firstMatch ifLt ifEq
   first-is zero at = nothing
   first-is (suc n) at =
       picked-by P (ltb end (at + size at)) _ _ nothing (λ e.

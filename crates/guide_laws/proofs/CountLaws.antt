@@ -8,7 +8,7 @@ use borrow.Author.Tests.{leb-true}
 use Rattle.logic.proofs.LoopLaws.{and-left}
 use Rattle.refusal.specs.Outcomes.{Outcome, result}
 use Rattle.refusal.specs.Outputs.{counted}
-use Rattle.refusal.proofs.OutcomeLaws.{after-is, same-result}
+use Rattle.refusal.proofs.OutcomeLaws.{after-is, same-result, went-on}
 use Rattle.kind.specs.declared.Kind.{Kind}
 use Rattle.kind.specs.declared.Kind.the-variants.{Rrt, Eit, Ett}
 use Rattle.kind.specs.Kinds.{onlyOf, limitsOf}
@@ -17,40 +17,39 @@ use Rattle.rrt.specs.Fields.{dimensionEnd}
 use Rattle.section.specs.Sections.{sectionBy}
 use Rattle.section.specs.Writing.{lengthFits}
 use Rattle.writing.specs.Written.{allowed, eitWritten, ettWritten}
-use Rattle.writing.proofs.TestLaws.{went-on}
 use Rattle.section.proofs.PassLaws.{not-less}
 use Rattle.strings.specs.Places.{textEnd}
 use Rattle.entry.specs.declared.Entry.{Entry}
 use Rattle.entry.specs.declared.Entry.the-variants.{Table, Channel, Dimension, Event}
-use Rattle.entry.specs.Entries.{tableOf, countOf, firstOf}
+use Rattle.entry.specs.Entries.{kindOfEntry, entryCount, firstEntry}
 use Rattle.rows.specs.declared.Row.{Row}
-use Rattle.rows.specs.Rows.{entryFor, width, roomFor, rowsIn, rowsOf}
+use Rattle.rows.specs.Rows.{entryFor, rowWidth, roomForRows, rowsIn, rowsOf}
 use Rattle.rows.specs.Values.{valueCount, valueRowsIn, valueRowsOf}
 use Rattle.titles.specs.Titles as titles
 use Rattle.titles.proofs.TitlesLaws.{units-few, judged-events}
-use Rattle.guide.specs.Told.{oneNumber}
-use Rattle.guide.specs.Titled.{countsNumbers}
+use Rattle.telling.specs.Told.{oneNumber}
+use Rattle.telling.specs.Titled.{countsNumbers}
 use Rattle.guide_laws.specs.Whole.{Whole, CountsWhole, WrittenWhole}
 use Rattle.guide_laws.proofs.SmallLaws.{whole, word-small, largest-small, judged-size}
 
 module _ (s : List ℕ) (bytes : Bytes s) where
-  count-small : (e : Entry) → countOf e s < 65536
-  unfolding countOf
+  count-small : (e : Entry) → entryCount e s < 65536
+  unfolding entryCount
   count-small Table = word-small s bytes 9
   count-small Channel = omega (arith, bytes 9)
   count-small Dimension = omega (arith, bytes (textEnd s 9))
   count-small Event = omega (arith, bytes 9)
 
   -- a count for which there is room
-  room-whole : (w n room : ℕ) → n < 4294967296 → Whole oneNumber (roomFor w n room)
-  unfolding roomFor
+  room-whole : (w n room : ℕ) → n < 4294967296 → Whole oneNumber (roomForRows w n room)
+  unfolding roomForRows
   room-whole w n room h a e = whole oneNumber n a (not-less room (w * n) 12 _ a e .1) (h, record {})
 
   rows-whole : (r : Row) (room : ℕ) → Whole oneNumber (rowsOf r s room)
   unfolding rowsOf rowsIn
   rows-whole r room a e =
-      let p = after-is (sectionBy (onlyOf (tableOf (entryFor r))) s) _ a e in
-      room-whole (width r) (countOf (entryFor r) s) room (omega (arith, count-small (entryFor r))) a (p .1 .1)
+      let p = after-is (sectionBy (onlyOf (kindOfEntry (entryFor r))) s) _ a e in
+      room-whole (rowWidth r) (entryCount (entryFor r) s) room (omega (arith, count-small (entryFor r))) a (p .1 .1)
 
   -- a dimension has at most fifteen values
   values-small : (n d : ℕ) → valueCount s n d ≤ 15 * n
@@ -62,10 +61,10 @@ module _ (s : List ℕ) (bytes : Bytes s) where
   unfolding valueRowsOf valueRowsIn
   values-whole room a e =
       let p = after-is (sectionBy (onlyOf Rrt) s) _ a e in
-      room-whole 6 _ room (omega (arith, values-small (countOf Dimension s) (firstOf Dimension s), count-small Dimension)) a (p .1 .1)
+      room-whole 6 _ room (omega (arith, values-small (entryCount Dimension s) (firstEntry Dimension s), count-small Dimension)) a (p .1 .1)
 
   titles-whole : (rows units : ℕ) → Whole countsNumbers (titles.titlesOf s rows units)
-  unfolding titles.titlesOf titles.titlesIn titles.roomFor
+  unfolding titles.titlesOf titles.titlesIn titles.roomForTitles
   titles-whole rows units a e =
       let p = after-is (sectionBy (onlyOf Eit) s) _ a e in
       let q = not-less rows _ 12 _ a (p .1 .1) in

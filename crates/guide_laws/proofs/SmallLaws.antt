@@ -25,15 +25,16 @@ use Rattle.section.proofs.PassLaws.{is-less}
 use Rattle.section.proofs.SectionLaws.{section-sound}
 use Rattle.entry.specs.declared.Entry.{Entry}
 use Rattle.entry.specs.declared.Entry.the-variants.{Dimension}
-use Rattle.entry.specs.Entries.{tableOf, spotOf, spotIn, restIn, entryWalk, countOf, valueSpot}
-use Rattle.entry.proofs.EntryLaws.{entries-inside, judged-begins, standing-is}
+use Rattle.entry.specs.Entries.{kindOfEntry, spotOf, spotIn, restIn, entryWalk, entryCount, valueSpot}
+use Rattle.bytes_at.proofs.WalkLaws.{standing-is}
+use Rattle.entry.proofs.EntryLaws.{entries-inside, judged-begins}
 use Rattle.entry.proofs.ValueLaws.{values-inside}
 use Rattle.rrt.specs.Format.{value}
 use Rattle.rrt.specs.Fields.{valuesAt, firstValueAt}
 use Rattle.bytes_at.specs.Walks.{many}
 use Rattle.format.specs.Formats.{walks}
-use Rattle.guide.specs.Told.{noted}
-use Rattle.guide.proofs.ToldLaws.{as-told}
+use Rattle.telling.specs.Told.{noted}
+use Rattle.telling.proofs.ToldLaws.{as-told}
 
 -- every number of a list has 32 bits
 abbrev pub Small : List ℕ → Type 0
@@ -86,23 +87,23 @@ judged-size k s h e = let p = section-sound k s h e .0 in let m = largest-small 
 pub spot-small : (e : Entry) (s : List ℕ) (i a : ℕ) → spotOf e s i ≡ result a → a ≤ 4096
 unfolding spotOf spotIn
 spot-small e s i a q =
-    let h = after-is (sectionBy (onlyOf (tableOf e)) s) _ a q in
-    let l = is-less i (countOf e s) 13 _ a (h .1 .1) in
+    let h = after-is (sectionBy (onlyOf (kindOfEntry e)) s) _ a q in
+    let l = is-less i (entryCount e s) 13 _ a (h .1 .1) in
     let w = standing-is (entryWalk e s i) a (l .1) in
     let n = entries-inside e s i a (judged-begins e s (h .0) (h .1 .0)) w in
-    omega (arith, n, judged-size (tableOf e) s (h .0) (h .1 .0))
+    omega (arith, n, judged-size (kindOfEntry e) s (h .0) (h .1 .0))
 
-pub rest-small : (e : Entry) (s : List ℕ) (h : Header) (b : ℕ) → sectionBy (onlyOf (tableOf e)) s ≡ result h → restIn e s ≡ result b → b ≤ 4096
+pub rest-small : (e : Entry) (s : List ℕ) (h : Header) (b : ℕ) → sectionBy (onlyOf (kindOfEntry e)) s ≡ result h → restIn e s ≡ result b → b ≤ 4096
 unfolding restIn
 rest-small e s h b judged q =
-    let w = standing-is (entryWalk e s (countOf e s)) b q in
-    let n = entries-inside e s (countOf e s) b (judged-begins e s h judged) w in
-    omega (arith, n, judged-size (tableOf e) s h judged)
+    let w = standing-is (entryWalk e s (entryCount e s)) b q in
+    let n = entries-inside e s (entryCount e s) b (judged-begins e s h judged) w in
+    omega (arith, n, judged-size (kindOfEntry e) s h judged)
 
 pub value-small : (s : List ℕ) (i d j a : ℕ) → spotOf Dimension s i ≡ result d → valueSpot s d j ≡ result a → a ≤ 4096
 unfolding spotOf valueSpot
 value-small s i d j a p q =
-    let h = after-is (sectionBy (onlyOf (tableOf Dimension)) s) _ d p in
+    let h = after-is (sectionBy (onlyOf (kindOfEntry Dimension)) s) _ d p in
     let l = is-less j (valuesAt s d) 13 _ a q in
     let w = standing-is (many (walks value s (length s - 4)) j (firstValueAt s d)) a (l .1) in
     omega (arith, values-inside s d j a (l .0) w, judged-size Rrt s (h .0) (h .1 .0))

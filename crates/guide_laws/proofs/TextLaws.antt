@@ -17,7 +17,8 @@ use Rattle.strings.specs.Strings.{text}
 use Rattle.part.specs.declared.Part.{Part}
 use Rattle.part.specs.Parts.{bytesIn}
 use Rattle.text.specs.Answers.{amountOf}
-use Rattle.text.specs.Strings.{stringCount, standing, stringAt, stringReplaced, stringHeading, headingBefore, toldFrom}
+use Rattle.bytes_at.specs.Walks.{standing}
+use Rattle.text.specs.Strings.{stringCount, stringAt, stringReplaced, stringHeading, headingBefore, toldFrom}
 use Rattle.text.specs.Texts.{ofField, fitting, fieldCount, fieldUnits, fieldReplaced, fieldHeading}
 use Rattle.text.proofs.AmountLaws.{none-joined}
 use Rattle.text.proofs.FewLaws.{few-units}
@@ -26,9 +27,9 @@ use Rattle.section.specs.Sections.{sectionBy}
 use Rattle.section_text.specs.declared.field.Which.{Which}
 use Rattle.section_text.specs.Fields.{kindFor, fieldOf}
 use Rattle.section_text.specs.Texts.{textCount, textHeading, textUnits, textReplaced}
-use Rattle.guide.specs.Told.{oneNumber}
-use Rattle.guide.specs.Fields.{headingNumbers, amountNumbers}
-use Rattle.guide.specs.Texts.{whichOf, stringOf, ofText}
+use Rattle.telling.specs.Told.{oneNumber}
+use Rattle.telling.specs.Fields.{headingNumbers, amountNumbers}
+use Rattle.telling.specs.Texts.{whichOf, stringOf, ofText}
 use Rattle.guide_laws.specs.Whole.{Whole, FieldWhole, TextWhole, Short}
 use Rattle.guide_laws.proofs.SmallLaws.{whole, picked, judged-size}
 

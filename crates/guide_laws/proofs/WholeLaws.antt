@@ -7,7 +7,7 @@ use lib.Dec.{eqb}
 use native.Mathlib.Omega.{arith}
 use lib.ListN.{length}
 use Rattle.refusal.specs.Outcomes.{Outcome, refused, result}
-use Rattle.refusal.proofs.OutcomeLaws.{after-is, not-both}
+use Rattle.refusal.proofs.OutcomeLaws.{after-is, went-on}
 use Rattle.kind.specs.declared.Kind.{Kind}
 use Rattle.kind.specs.declared.Kind.the-variants.{Mgt, Tvct, Rrt, Eit, Ett}
 use Rattle.kind.specs.Kinds.{onlyOf, kindOf, tableIdOf}
@@ -40,19 +40,15 @@ use Rattle.reading.specs.Tvcts as tvcts
 use Rattle.reading.specs.Rrts as rrts
 use Rattle.reading.specs.Eits as eits
 use Rattle.reading.specs.Etts as etts
-use Rattle.guide.specs.Told.{noted}
-use Rattle.guide.specs.Sections.{headerNumbers}
-use Rattle.guide.specs.Ratings.{ratingNumbers, descriptorNumbers, textNumbers}
-use Rattle.guide.specs.Tables.{mgtNumbers, definedNumbers, tvctNumbers, channelNumbers, rrtNumbers, dimensionNumbers, valueNumbers, eitNumbers, eventNumbers, ettNumbers, titleSort, titlePlace}
+use Rattle.telling.specs.Told.{noted}
+use Rattle.telling.specs.Sections.{headerNumbers}
+use Rattle.telling.specs.Ratings.{ratingNumbers, descriptorNumbers, textNumbers}
+use Rattle.telling.specs.Tables.{mgtNumbers, definedNumbers, tvctNumbers, channelNumbers, rrtNumbers, dimensionNumbers, valueNumbers, eitNumbers, eventNumbers, ettNumbers, titleSort, titlePlaceTold}
 use Rattle.guide_laws.specs.Whole.{Whole, TablesWhole, EventWhole, ListWhole, ToldAsTheyAre, Short}
 use Rattle.guide_laws.proofs.AskedLaws.{rating-small, descriptor-small, text-small-in, or-none-whole}
 use Rattle.guide_laws.proofs.TextLaws.{fields-whole, texts-whole}
 use Rattle.guide_laws.proofs.CountLaws.{counts-whole, written-whole}
 use Rattle.guide_laws.proofs.SmallLaws.{Small, small-whole, whole, picked, small-join, bits-small, word-small, judged-size, spot-small, rest-small, value-small, part-small, list12-small, list10-small, text-small, text-end}
-
-chosen : {A : Type 0} (t : Bool) (o : Outcome A) (a : A) → pick t o (refused 9) ≡ result a → o ≡ result a
-chosen true o a e = e
-chosen false o a e = not-both 9 a e
 
 table-id-small : (k : Kind) → tableIdOf k < 256
 table-id-small Mgt = omega arith
@@ -239,7 +235,7 @@ module _ (s : List ℕ) (bytes : Bytes s) where
 
   -- a title has a sort, and stands where its part does or nowhere
   abbrev TitleSmall : Title → Type 0
-  TitleSmall t = (titleSort t < 4) × Small (partRow (titlePlace t))
+  TitleSmall t = (titleSort t < 4) × Small (partRow (titlePlaceTold t))
 
   none-small : TitleSmall None
   none-small = (omega arith, part-small _ (omega arith) (omega arith))
@@ -268,7 +264,7 @@ module _ (s : List ℕ) (bytes : Bytes s) where
               omega (arith, f 52 20),
               (
                 omega (arith, t .0),
-                small-join (partRow (titlePlace (eit.titleAt s a))) (partRow (eit.descriptorsAt s a)) (t .1) (list12-small s (textEnd s (a + 9)) (omega arith)),
+                small-join (partRow (titlePlaceTold (eit.titleAt s a))) (partRow (eit.descriptorsAt s a)) (t .1) (list12-small s (textEnd s (a + 9)) (omega arith)),
               ),
             ),
           ),
@@ -302,14 +298,14 @@ module _ (s : List ℕ) (bytes : Bytes s) where
   list-end a h = omega (arith, text-end s bytes (a + 9) (omega arith))
 
   event-asked : (i : ℕ) → EventWhole s i
-  unfolding eits.ratingOf eits.descriptorOf eits.advisoryTextOf event.ratingAt event.descriptorAt event.advisoryTextAt
+  unfolding eits.ratingOf eits.descriptorOf eits.advisoryTextOf event.ratingAt event.eventDescriptor event.advisoryTextAt
   event-asked i = record {
     rating = λ region dimension r e.
         let p = after-is (spotOf Event s i) _ r e in
         whole ratingNumbers _ r (p .1 .1) (rating-small s bytes _ (list-end (p .0) (spot-small Event s i (p .0) (p .1 .0))) region dimension (eit.descriptorsAt s (p .0) .start));
     descriptor = λ k d e.
         let p = after-is (spotOf Event s i) _ d e in
-        or-none-whole descriptorNumbers (event.descriptorAt s (p .0) k) d
+        or-none-whole descriptorNumbers (event.eventDescriptor s (p .0) k) d
         (descriptor-small s bytes _ (list-end (p .0) (spot-small Event s i (p .0) (p .1 .0))) k (eit.descriptorsAt s (p .0) .start)) (p .1 .1);
     advisory = λ region t e.
         let p = after-is (spotOf Event s i) _ t e in
@@ -320,7 +316,7 @@ module _ (s : List ℕ) (bytes : Bytes s) where
 -- ---- a list by itself
 if-filled : {A : Type 0} (l : List ℕ) (o : Outcome A) (a : A) → eits.ifFilled l o ≡ result a → o ≡ result a
 unfolding eits.ifFilled
-if-filled l o a e = chosen (eits.filled l) o a e
+if-filled l o a e = went-on 9 (eits.isFilled l) o a e .1
 
 list-whole : (l : List ℕ) → Bytes l → Short l → ListWhole l
 list-whole l bytes low = record {

@@ -20,14 +20,14 @@ use Rattle.reading.specs.Tvcts as tvcts
 use Rattle.reading.specs.Rrts as rrts
 use Rattle.reading.specs.Eits as eits
 use Rattle.reading.specs.Etts as etts
-use Rattle.guide.specs.Told.{noted, oneNumber}
-use Rattle.guide.specs.Sections.{headerNumbers}
-use Rattle.guide.specs.Tables.{mgtNumbers, definedNumbers, tvctNumbers, channelNumbers, rrtNumbers, dimensionNumbers, valueNumbers, eitNumbers, eventNumbers, ettNumbers}
-use Rattle.guide.specs.Ratings.{ratingNumbers, descriptorNumbers, textNumbers}
-use Rattle.guide.specs.Fields.{headingNumbers, amountNumbers}
-use Rattle.guide.specs.Texts.{askedCount, askedHeading, askedAmount, fittingAmount}
-use Rattle.guide.specs.Titled.{countsNumbers}
-use Rattle.guide.specs.Writers.{eitFrom, ettFrom}
+use Rattle.telling.specs.Told.{noted, oneNumber}
+use Rattle.telling.specs.Sections.{headerNumbers}
+use Rattle.telling.specs.Tables.{mgtNumbers, definedNumbers, tvctNumbers, channelNumbers, rrtNumbers, dimensionNumbers, valueNumbers, eitNumbers, eventNumbers, ettNumbers}
+use Rattle.telling.specs.Ratings.{ratingNumbers, descriptorNumbers, textNumbers}
+use Rattle.telling.specs.Fields.{headingNumbers, amountNumbers}
+use Rattle.telling.specs.Texts.{askedCount, askedHeading, askedAmount, fittingAmount}
+use Rattle.telling.specs.Titled.{countsNumbers}
+use Rattle.telling.specs.Writers.{eitFrom, ettFrom}
 
 -- the numbers of a result, which f says, are told as they are
 abbrev pub Whole : {A : Type 0} → (A → List ℕ) → Outcome A → Type 0

@@ -45,17 +45,17 @@ use denote.Triple.Clauses.{Clauses, ensured, lasts, closing}
 use denote.Exit.{yes}
 use borrow.Rule.Array.Share.{room-take}
 use Rattle.logic.specs.Choices.{pick}
-use Rattle.lent.specs.Calls.{Left, Reading, calledFirst, followedBy, left}
-use Rattle.lent.specs.declared.records.LentWatch.{LentWatch}
-use Rattle.lent.specs.declared.records.Called.{Called}
-use Rattle.lent.proofs.Element.{R, vals, tells, makes, lawful}
+use Rattle.lent.specs.Calls.{Left, CallIn, calledFirst, followedBy, left}
+use Rattle.lent_memory.specs.declared.records.LentWatch.{LentWatch}
+use Rattle.lent_memory.specs.declared.records.Called.{Called}
+use Rattle.lent_memory.proofs.Element.{R, vals, tells, makes, lawful}
 use Rattle.lent.proofs.Front.{cell, FrontLent, lends-front, front-back}
 use Rattle.lent.proofs.Thin.{Says, entry, named-record, passes, slice, val-local}
-use Rattle.lent.proofs.records.LentWatch.Laws as T′
-use Rattle.lent.proofs.records.Called as D
-use Rattle.lent.proofs.records.Called.Laws as D′
-use Rattle.lent.proofs.records.called_with as cw
-use Rattle.lent.proofs.records.called_with.Symbol.{name as #cw}
+use Rattle.lent_memory.proofs.records.LentWatch.Laws as T′
+use Rattle.lent_memory.proofs.records.Called as D
+use Rattle.lent_memory.proofs.records.Called.Laws as D′
+use Rattle.lent_memory.proofs.records.called_with as cw
+use Rattle.lent_memory.proofs.records.called_with.Symbol.{name as #cw}
 use Rattle.lent.proofs.calls.lent_deliver as le
 use Rattle.lent.proofs.by_value.deliver as f
 
@@ -68,14 +68,14 @@ passed-by : {X : Type 0} (b : Bool) (x y : X) → T (not b) → y ≡ pick b x y
 passed-by true x y t = absurd t
 passed-by false x y t = refl
 
-abbrev Said : Reading → ℕ → List LentWatch → (ps ar ss qs re : List ℕ) → ℕ → List LentWatch → (ps′ ar′ re′ : List ℕ) → Type 0
+abbrev Said : CallIn → ℕ → List LentWatch → (ps ar ss qs re : List ℕ) → ℕ → List LentWatch → (ps′ ar′ re′ : List ℕ) → Type 0
 Said g n ws ps ar ss qs re k ws′ ps′ ar′ re′ = left k ws′ ps′ ar′ re′ ≡ calledFirst g n ws ps ar ss qs re
 
-too-many : (g : Reading) (n : ℕ) (ws : List LentWatch) (ps ar ss qs re : List ℕ) → T (ltb 16 n) → Said g n ws ps ar ss qs re 14 ws ps ar re
+too-many : (g : CallIn) (n : ℕ) (ws : List LentWatch) (ps ar ss qs re : List ℕ) → T (ltb 16 n) → Said g n ws ps ar ss qs re 14 ws ps ar re
 unfolding calledFirst
 too-many g n ws ps ar ss qs re h = chosen (ltb 16 n) _ _ h
 
-first-few : (g : Reading) (n : ℕ) (ws zs : List LentWatch) (ps ar ss qs re : List ℕ) (k : ℕ) (ps′ ar′ re′ : List ℕ) → T (not (ltb 16 n)) → Says g (take n ws) ps ar ss qs re k zs ps′ ar′ re′
+first-few : (g : CallIn) (n : ℕ) (ws zs : List LentWatch) (ps ar ss qs re : List ℕ) (k : ℕ) (ps′ ar′ re′ : List ℕ) → T (not (ltb 16 n)) → Says g (take n ws) ps ar ss qs re k zs ps′ ar′ re′
     → Said g n ws ps ar ss qs re k (zs ++ drop-list n ws) ps′ ar′ re′
 unfolding calledFirst
 first-few g n ws zs ps ar ss qs re k ps′ ar′ re′ h e = ap (λ (r : Left). followedBy r (drop-list n ws)) e ∙ passed-by (ltb 16 n) _ _ h
@@ -125,7 +125,7 @@ Dr = D.the-row
 abbrev stayed : Stays (f.ended .signature .params) (f.ended .kept)
 stayed = (stay-dropped (plain (λ _. Ar)) yes, (stay-dropped (plain (λ _. usize)) yes, (gave-slice (0 ∷ []) tt (plain (λ _. u32)), (gave-slice (1 ∷ []) tt (plain (λ _. u8)), (stay-dropped (shrSliceOf (2 ∷ []) tt (plain (λ _. u8))) yes, (stay-dropped (shrSliceOf (3 ∷ []) tt (plain (λ _. u32))) yes, (gave-slice (4 ∷ []) tt (plain (λ _. u32)), tt)))))))
 
-module _ {M : Type 1} (𝓤 : URA M) (g : Reading) where
+module _ {M : Type 1} (𝓤 : URA M) (g : CallIn) where
   abbrev pub by-value : Clauses 𝓤 f.ended
   by-value κs a = record {
     ghost = Unit {0};
@@ -140,14 +140,14 @@ module _ {M : Type 1} (𝓤 : URA M) (H : Heap 𝓤) (A : Atoms 𝓤) (mem : Mem
   cw-of : (k : ℕ) (zs : List LentWatch) (c : Called) → ent 𝓤 (ensured 𝓤 H A cw.ended (cw.clauses 𝓤 H A mem run) tt (k, (zs, tt)) tt c) (fact 𝓤 ((c .number ≡ k) × (c .watches ≡ zs)))
   cw-of k zs c = exE 𝓤 _ (λ us. snd∗ 𝓤 (sem 𝓤 H A (lasts cw.ended tt (k, (zs, tt)) us)) (fact 𝓤 ((c .number ≡ k) × (c .watches ≡ zs))))
 
-  abbrev pub Le : Reading → Contract 𝓤
+  abbrev pub Le : CallIn → Contract 𝓤
   Le g = tripleOf 𝓤 H A le.signature (closing 𝓤 H A le.ended (entry 𝓤 g))
 
   -- a slice that nothing was done to ends as it was
   ends-same : (W : Given 𝓤 H A) (Q : RattleType) (ℓ : Lifetime) (κ : Lft) (x : RefT (List (Q .Denot))) (vs : List Val) → ent 𝓤 (sem 𝓤 H A (MutSlice ℓ κ Q .own x vs)) (sem 𝓤 H A (finally Q (x .name) (x .now)))
   ends-same W Q ℓ κ x vs = qed W (‵ (MutSlice ℓ κ Q .own x vs) ∷ []) ∵ fsplit ! $ drop ! $ fsplit ! $ move ! (1 ∷ []) $ drop ! $ use1 W (‵ (fres (x .name) (codedHoleys Q .code (heres Q (x .now))))) (W .names .obs-res (x .name) (codedHoleys Q .code (heres Q (x .now)))) $ by ! (res-finally 𝓤 H A W ℓ κ Q (x .name) (x .now))
 
-module _ {M : Type 1} (𝓤 : URA M) (H : Heap 𝓤) (A : Atoms 𝓤) (W : Given 𝓤 H A) (mem : Memory → SProp 𝓤) (run : Routine → Fun 𝓤) (g : Reading) (#le : Name) (κ₁ κ₂ κ₃ κ₄ κ₅ : Lft) (q₁ q₂ q₃ q₄ q₅ : Share)
+module _ {M : Type 1} (𝓤 : URA M) (H : Heap 𝓤) (A : Atoms 𝓤) (W : Given 𝓤 H A) (mem : Memory → SProp 𝓤) (run : Routine → Fun 𝓤) (g : CallIn) (#le : Name) (κ₁ κ₂ κ₃ κ₄ κ₅ : Lft) (q₁ q₂ q₃ q₄ q₅ : Share)
     (ws : List LentWatch) (n : ℕ) (xp xa xs xq xr : RefT (List ℕ)) (ws-is : Is Ar ws (avals ws)) (n-fits : n < 2 ^ 64) (room₁ : Room u32 (length (xp .now))) (room₂ : Room u8 (length (xa .now))) (room₃ : Room u8 (length (xs .now)))
     (room₄ : Room u32 (length (xq .now))) (room₅ : Room u32 (length (xr .now))) where
   abbrev Arg : Type 0
@@ -328,7 +328,7 @@ module _ {M : Type 1} (𝓤 : URA M) (H : Heap 𝓤) (A : Atoms 𝓤) (W : Given
         leaves l₀ l₁ l₂ l₃ l₄ l₅ l₆ l₇ l₈ l₉ l₁₀ l₁₁ l₁₂ l₁₃ l₁₄ l₁₅ l₁₆ l₁₇ l₁₈ l₁₉ l₂₀ k (zs .0 ++ drop-list n ws) (zs .1 .0) (zs .1 .1 .0) (zs .1 .1 .1 .1 .1 .0)
         (first-few g n ws (zs .0) (xp .now) (xa .now) (xs .now) (xq .now) (xr .now) k (zs .1 .0) (zs .1 .1 .0) (zs .1 .1 .1 .1 .1 .0) failed e) (is .1) is₂ lp la lr))))))))))))))))))))))))))))))))))
 
-module _ {M : Type 1} (𝓤 : URA M) (H : Heap 𝓤) (A : Atoms 𝓤) (W : Given 𝓤 H A) (mem : Memory → SProp 𝓤) (run : Routine → Fun 𝓤) (g : Reading) (#le : Name) (𝓣 : Tables 𝓤 H) (known-le : Triple 𝓤 (𝓣 .C #le) (Le 𝓤 H A mem run g)) (known-cw : Triple 𝓤 (𝓣 .C #cw) (Cw 𝓤 H A mem run)) where
+module _ {M : Type 1} (𝓤 : URA M) (H : Heap 𝓤) (A : Atoms 𝓤) (W : Given 𝓤 H A) (mem : Memory → SProp 𝓤) (run : Routine → Fun 𝓤) (g : CallIn) (#le : Name) (𝓣 : Tables 𝓤 H) (known-le : Triple 𝓤 (𝓣 .C #le) (Le 𝓤 H A mem run g)) (known-cw : Triple 𝓤 (𝓣 .C #cw) (Cw 𝓤 H A mem run)) where
   walks : Walks 𝓤 H A f.ended stayed (WpFn 𝓤 H (𝓣 .C) (𝓣 .Λ) (shape #le)) (by-value 𝓤 g)
   walks = walked 𝓤 H A f.ended stayed (by-value 𝓤 g) (WpFn 𝓤 H (𝓣 .C) (𝓣 .Λ) (shape #le)) (λ κs. (array-vals vals, (uint-vals w64, (slice-vals, (slice-vals, (slice-vals, (slice-vals, (slice-vals, tt))))))))
       (λ κs. (array-tells R vals tells 16, (uint-tells w64, (mut-slice-tells (named 0) (κs .0) u32, (mut-slice-tells (named 1) (κs .1 .0) u8, (shr-slice-tells (named 2) (κs .1 .1 .0) u8, (shr-slice-tells (named 3) (κs .1 .1 .1 .0) u32, (mut-slice-tells (named 4) (κs .1 .1 .1 .1 .0) u32, tt))))))))

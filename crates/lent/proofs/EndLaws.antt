@@ -18,13 +18,16 @@ use Rattle.shelf_state.specs.declared.records.Shelf.{Shelf}
 use Rattle.shelf.specs.Answers.{After, Status}
 use Rattle.shelf.specs.Calls.{closed, fetched, opened, statusAfter}
 use Rattle.shelf.specs.Delivery.{areaAfter, delivered, delivering}
-use Rattle.lent.specs.Meaning.{blank, lent, meaning, numberAt, recordOf, shelfIn}
-use Rattle.lent.specs.Changes.{changedAt, compared, recordPut, recordsAfter, rowsAfter}
-use Rattle.lent.specs.Calls.{Left, Reading, amountIn, askedIn, askingIn, called, closingIn, deliveryIn, fetchingIn, left, lentCall, numberIn, openingIn, partNumbers, replyAfter, callFits, statusNumbers}
-use Rattle.lent.specs.Inner.{Ends, endingAt, endingOf}
-use Rattle.lent.specs.declared.records.Book.{Book}
-use Rattle.lent.specs.declared.records.Ending.{Ending}
-use Rattle.lent.specs.declared.records.LentWatch.{LentWatch}
+use Rattle.lent_memory.specs.Meaning.{blank, lent, meaning, numberAt, recordOf, shelfIn}
+use Rattle.lent_memory.specs.Changes.{changedAt, compared, recordPut, recordsAfter, rowsAfter}
+use Rattle.refusal.specs.Outputs.{numberIn}
+use Rattle.lent_memory.specs.Replies.{amountIn, askedIn, partNumbers, replyAfter, callFits, statusNumbers}
+use Rattle.lent.specs.Calls.{Left, CallIn, askingIn, called, closingIn, deliveryIn, fetchingIn, left, lentCall, openingIn}
+use Rattle.lent_memory.specs.Inner.{endingAt, endingOf}
+use Rattle.lent.specs.Inner.{Ends}
+use Rattle.lent_memory.specs.declared.records.Book.{Book}
+use Rattle.lent_memory.specs.declared.records.Ending.{Ending}
+use Rattle.lent_memory.specs.declared.records.LentWatch.{LentWatch}
 
 pub question-is : (q y : List ℕ) → callFits q y ≡ true → length q ≡ 4
 unfolding callFits
@@ -55,7 +58,7 @@ unfolding endingAt
 ending-number i n s t k = pick-number (ltb i n) k _ _ refl refl
 
 -- ---- memory that no rule allows
-pub broken-said : (f : Reading) (k : Book) (l area b q y : List ℕ) (r : Ending) → callFits q y ≡ false → r ≡ record { number = 14; at = k .records; watch = blank } → Ends f k l area b q y r l area y
+pub broken-said : (f : CallIn) (k : Book) (l area b q y : List ℕ) (r : Ending) → callFits q y ≡ false → r ≡ record { number = 14; at = k .records; watch = blank } → Ends f k l area b q y r l area y
 unfolding called
 broken-said f k l area b q y r e g = λ ws h.
     (λ z. left (g z .number) (set ws (g z .at) (g z .watch)) l area y)
@@ -69,7 +72,7 @@ module _ (k : Book) (l area b q y : List ℕ) (s t : Shelf) (n : ℕ) (r : Endin
   abbrev leaving : {A : Type 0} → Shelf → List LentWatch → List ℕ → List ℕ → After A → Left
   leaving s ws area y r = left (numberIn (r .outcome)) (recordsAfter s (r .shelf) ws) (rowsAfter s (r .shelf) l) area y
 
-  ends : (f : Reading) (area′ y′ : List ℕ)
+  ends : (f : CallIn) (area′ y′ : List ℕ)
       → ((ws : List LentWatch) → s ≡ meaning (lent ws l area) → left n (recordsAfter s t ws) (rowsAfter s t l) area′ y′ ≡ lentCall (lent ws l area) (f b q) y)
       → Ends f k l area b q y r l′ area′ y′
   unfolding called shelfIn

@@ -39,29 +39,30 @@ use denote.Triple.Spec.{Meets, tripleOf}
 use denote.Triple.Walked.{says, Stays, gave-slice, stay-dropped, walkOf, goes-gave-slice, goes-dropped, Walks, ends-at, walked, walk-meets}
 use denote.Triple.Clauses.{Clauses, ensured, lasts, closing}
 use denote.Exit.{yes}
-use Rattle.lent.specs.Meaning.{lent}
-use Rattle.lent.specs.Calls.{Reading, called, left}
-use Rattle.lent.specs.Inner.{Ends, Gathered}
-use Rattle.lent.specs.declared.records.Book.{Book}
-use Rattle.lent.specs.declared.records.Ending.{Ending}
-use Rattle.lent.specs.declared.records.LentWatch.{LentWatch}
-use Rattle.lent.proofs.Element.{R, vals, makes}
+use Rattle.lent_memory.specs.Meaning.{lent}
+use Rattle.lent.specs.Calls.{CallIn, called, left}
+use Rattle.lent_memory.specs.Inner.{Gathered}
+use Rattle.lent.specs.Inner.{Ends}
+use Rattle.lent_memory.specs.declared.records.Book.{Book}
+use Rattle.lent_memory.specs.declared.records.Ending.{Ending}
+use Rattle.lent_memory.specs.declared.records.LentWatch.{LentWatch}
+use Rattle.lent_memory.proofs.Element.{R, vals, makes}
 use Rattle.lent.proofs.Shared.{LentShared, lends-shared, shared-back}
-use Rattle.lent.proofs.records.LentWatch.Laws as T′
-use Rattle.lent.proofs.records.Book as B
-use Rattle.lent.proofs.records.Book.Laws as B′
-use Rattle.lent.proofs.records.Ending as K
-use Rattle.lent.proofs.records.Ending.Laws as K′
-use Rattle.lent.proofs.records.gather as ga
-use Rattle.lent.proofs.records.gather.Symbol.{name as #ga}
-use Rattle.lent.proofs.records.put_or as pu
-use Rattle.lent.proofs.records.put_or.Symbol.{name as #pu}
+use Rattle.lent_memory.proofs.records.LentWatch.Laws as T′
+use Rattle.lent_memory.proofs.records.Book as B
+use Rattle.lent_memory.proofs.records.Book.Laws as B′
+use Rattle.lent_memory.proofs.records.Ending as K
+use Rattle.lent_memory.proofs.records.Ending.Laws as K′
+use Rattle.lent_memory.proofs.records.gather as ga
+use Rattle.lent_memory.proofs.records.gather.Symbol.{name as #ga}
+use Rattle.lent_memory.proofs.records.put_or as pu
+use Rattle.lent_memory.proofs.records.put_or.Symbol.{name as #pu}
 use Rattle.lent.proofs.on_book.deliver as co
 use Rattle.lent.proofs.calls.lent_deliver as f
 
 -- the name of the records' type, under a reference; a slice's type
 abbrev pub named-record : Ty
-named-record = tyNamed (108 ∷ 101 ∷ 110 ∷ 116 ∷ 58 ∷ 58 ∷ 114 ∷ 101 ∷ 99 ∷ 111 ∷ 114 ∷ 100 ∷ 115 ∷ 58 ∷ 58 ∷ 76 ∷ 101 ∷ 110 ∷ 116 ∷ 87 ∷ 97 ∷ 116 ∷ 99 ∷ 104 ∷ [], [])
+named-record = tyNamed (108 ∷ 101 ∷ 110 ∷ 116 ∷ 95 ∷ 109 ∷ 101 ∷ 109 ∷ 111 ∷ 114 ∷ 121 ∷ 58 ∷ 58 ∷ 114 ∷ 101 ∷ 99 ∷ 111 ∷ 114 ∷ 100 ∷ 115 ∷ 58 ∷ 58 ∷ 76 ∷ 101 ∷ 110 ∷ 116 ∷ 87 ∷ 97 ∷ 116 ∷ 99 ∷ 104 ∷ [], [])
 
 abbrev pub slice : Lifetime → Mutability → Ty → Ty
 slice ℓ k τ = tyStruct sliceName (tcons (tyRef ℓ k τ) (tcons (tyInt w64) tnil))
@@ -105,10 +106,10 @@ abbrev stayed : Stays (f.ended .signature .params) (f.ended .kept)
 stayed = (gave-slice (0 ∷ []) tt (plain (λ _. R)), (gave-slice (1 ∷ []) tt (plain (λ _. u32)), (gave-slice (2 ∷ []) tt (plain (λ _. u8)), (stay-dropped (shrSliceOf (3 ∷ []) tt (plain (λ _. u8))) yes, (stay-dropped (shrSliceOf (4 ∷ []) tt (plain (λ _. u32))) yes, (gave-slice (5 ∷ []) tt (plain (λ _. u32)), tt))))))
 
 -- what a call says
-abbrev pub Says : Reading → List LentWatch → (ps ar ss qs re : List ℕ) → ℕ → List LentWatch → (ps′ ar′ re′ : List ℕ) → Type 0
+abbrev pub Says : CallIn → List LentWatch → (ps ar ss qs re : List ℕ) → ℕ → List LentWatch → (ps′ ar′ re′ : List ℕ) → Type 0
 Says g ws ps ar ss qs re n ws′ ps′ ar′ re′ = left n ws′ ps′ ar′ re′ ≡ called g (lent ws ps ar) ss qs re
 
-module _ {M : Type 1} (𝓤 : URA M) (g : Reading) where
+module _ {M : Type 1} (𝓤 : URA M) (g : CallIn) where
   abbrev pub core : Clauses 𝓤 co.ended
   core κs a = record {
     ghost = Unit {0};
@@ -130,13 +131,13 @@ module _ {M : Type 1} (𝓤 : URA M) (H : Heap 𝓤) (A : Atoms 𝓤) (mem : Mem
   abbrev pub Pu : Contract 𝓤
   Pu = tripleOf 𝓤 H A pu.signature (pu.spec 𝓤 H A mem run)
 
-  abbrev pub Co : Reading → Contract 𝓤
+  abbrev pub Co : CallIn → Contract 𝓤
   Co g = tripleOf 𝓤 H A co.signature (closing 𝓤 H A co.ended (core 𝓤 g))
 
   ga-of : (κ : Lft) (x : RefT (List LentWatch)) (r : Book) → ent 𝓤 (ensured 𝓤 H A ga.ended (ga.clauses 𝓤 H A mem run) (κ, tt) (x, tt) tt r) (fact 𝓤 (Gathered r (x .now)))
   ga-of κ x r = exE 𝓤 _ (λ ws. snd∗ 𝓤 (sem 𝓤 H A (lasts ga.ended (κ, tt) (x, tt) ws)) (fact 𝓤 (Gathered r (x .now))))
 
-module _ {M : Type 1} (𝓤 : URA M) (H : Heap 𝓤) (A : Atoms 𝓤) (W : Given 𝓤 H A) (mem : Memory → SProp 𝓤) (run : Routine → Fun 𝓤) (g : Reading) (#co : Name) (κ κ₁ κ₂ κ₃ κ₄ κ₅ : Lft) (q q₁ q₂ q₃ q₄ q₅ : Share)
+module _ {M : Type 1} (𝓤 : URA M) (H : Heap 𝓤) (A : Atoms 𝓤) (W : Given 𝓤 H A) (mem : Memory → SProp 𝓤) (run : Routine → Fun 𝓤) (g : CallIn) (#co : Name) (κ κ₁ κ₂ κ₃ κ₄ κ₅ : Lft) (q q₁ q₂ q₃ q₄ q₅ : Share)
     (b o : ℕ) (γ : GName) (ys : List LentWatch) (xp xa xs xq xr : RefT (List ℕ)) (room : Room R (length ys)) (room₁ : Room u32 (length (xp .now))) (room₂ : Room u8 (length (xa .now))) (room₃ : Room u8 (length (xs .now)))
     (room₄ : Room u32 (length (xq .now))) (room₅ : Room u32 (length (xr .now))) where
   abbrev Arg : Type 0
@@ -297,7 +298,7 @@ module _ {M : Type 1} (𝓤 : URA M) (H : Heap 𝓤) (A : Atoms 𝓤) (W : Given
         move ! (47 ∷ 48 ∷ []) $ free1 ! $ move ! (45 ∷ 46 ∷ []) $ free1 ! $ move ! (43 ∷ 44 ∷ []) $ free1 ! $ move ! (41 ∷ 42 ∷ []) $ free1 ! $ move ! (39 ∷ 40 ∷ []) $ free1 ! $ move ! (37 ∷ 38 ∷ []) $ free1 ! $ move ! (35 ∷ 36 ∷ []) $ free1 ! $ move ! (33 ∷ 34 ∷ []) $ free1 ! $ move ! (31 ∷ 32 ∷ []) $ free1 ! $ move ! (29 ∷ 30 ∷ []) $ free1 ! $ move ! (27 ∷ 28 ∷ []) $ free1 ! $ move ! (25 ∷ 26 ∷ []) $ free1 ! $ move ! (23 ∷ 24 ∷ []) $ free1 ! $ move ! (21 ∷ 22 ∷ []) $ free1 ! $ move ! (19 ∷ 20 ∷ []) $ free1 ! $ move ! (17 ∷ 18 ∷ []) $ free1 ! $ move ! (15 ∷ 16 ∷ []) $ free1 ! $ move ! (13 ∷ 14 ∷ []) $ free1 ! $ move ! (11 ∷ 12 ∷ []) $ free1 ! $ move ! (9 ∷ 10 ∷ []) $ free1 ! $ free0 ! $
         keep ! (1 ∷ 2 ∷ 5 ∷ 6 ∷ 7 ∷ 8 ∷ []) $ by ! (exits (c .number) (zs .0) (ws .1 .0) (ws .1 .1 .0) (ws .1 .1 .1 .1 .1 .0) (ap (λ (m : List LentWatch). left (c .number) m (ws .1 .0) (ws .1 .1 .0) (ws .1 .1 .1 .1 .1 .0)) e₃ ∙ e₂ ys e₁) l lp la lr (fields .0))))))))))))))))))))))))))))))))))))))))))
 
-module _ {M : Type 1} (𝓤 : URA M) (H : Heap 𝓤) (A : Atoms 𝓤) (W : Given 𝓤 H A) (mem : Memory → SProp 𝓤) (run : Routine → Fun 𝓤) (g : Reading) (#co : Name) (𝓣 : Tables 𝓤 H) (known-ga : Triple 𝓤 (𝓣 .C #ga) (Ga 𝓤 H A mem run)) (known-co : Triple 𝓤 (𝓣 .C #co) (Co 𝓤 H A mem run g)) (known-pu : Triple 𝓤 (𝓣 .C #pu) (Pu 𝓤 H A mem run)) where
+module _ {M : Type 1} (𝓤 : URA M) (H : Heap 𝓤) (A : Atoms 𝓤) (W : Given 𝓤 H A) (mem : Memory → SProp 𝓤) (run : Routine → Fun 𝓤) (g : CallIn) (#co : Name) (𝓣 : Tables 𝓤 H) (known-ga : Triple 𝓤 (𝓣 .C #ga) (Ga 𝓤 H A mem run)) (known-co : Triple 𝓤 (𝓣 .C #co) (Co 𝓤 H A mem run g)) (known-pu : Triple 𝓤 (𝓣 .C #pu) (Pu 𝓤 H A mem run)) where
   walks : Walks 𝓤 H A f.ended stayed (WpFn 𝓤 H (𝓣 .C) (𝓣 .Λ) (shape #co)) (entry 𝓤 g)
   walks = walked 𝓤 H A f.ended stayed (entry 𝓤 g) (WpFn 𝓤 H (𝓣 .C) (𝓣 .Λ) (shape #co)) (λ κs. (slice-vals, (slice-vals, (slice-vals, (slice-vals, (slice-vals, (slice-vals, tt)))))))
       (λ κs. (mut-slice-tells (named 0) (κs .0) R, (mut-slice-tells (named 1) (κs .1 .0) u32, (mut-slice-tells (named 2) (κs .1 .1 .0) u8, (shr-slice-tells (named 3) (κs .1 .1 .1 .0) u8, (shr-slice-tells (named 4) (κs .1 .1 .1 .1 .0) u32, (mut-slice-tells (named 5) (κs .1 .1 .1 .1 .1 .0) u32, tt)))))))

@@ -1,5 +1,3 @@
 -- The definitions, in reading order.
-pub mod Meaning
-pub mod Changes
 pub mod Calls
 pub mod Inner

@@ -4,20 +4,20 @@ use crate::calls::lent_deliver;
 use crate::calls::lent_fetch;
 use crate::calls::lent_open;
 use crate::calls::lent_status;
-use crate::records::Book;
-use crate::records::Called;
-use crate::records::LentWatch;
-use crate::records::called_with;
-use crate::records::watch_meant;
-use crate::rows::at_most;
-use crate::rows::shelf_in;
+use lent_memory::records::Book;
+use lent_memory::records::Called;
+use lent_memory::records::LentWatch;
+use lent_memory::records::called_with;
+use lent_memory::records::watch_meant;
+use lent_memory::rows::at_most;
+use lent_memory::rows::shelf_in;
 use shelf_state::Shelf;
 use shelf_state::Watch;
 use shelf_state::inner::blank_watch;
 ghost use mathlib.Core.Path.{_≡_};
 ghost use Prim.Native.Nat.{_≤_};
 ghost use lib.ListN.{take};
-ghost use Rattle.lent.specs.Meaning.{shelfIn, watchesMeant};
+ghost use Rattle.lent_memory.specs.Meaning.{shelfIn, watchesMeant};
 ghost use Rattle.lent.specs.Calls.{left, calledFirst, openingIn, closingIn, askingIn, fetchingIn, deliveryIn};
 
 pub fn open(

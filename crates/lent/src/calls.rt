@@ -1,11 +1,11 @@
 // The five calls on lent memory, of C and of Rattle, all of one shape: the records are gathered, a call on the book ends with the one
 // record to write, and that is written. Opening, closing and delivering leave the reply; what a call does not use is not read.
 use crate::on_book;
-use crate::records::LentWatch;
-use crate::records::gather;
-use crate::records::put_or;
+use lent_memory::records::LentWatch;
+use lent_memory::records::gather;
+use lent_memory::records::put_or;
 ghost use mathlib.Core.Path.{_≡_};
-ghost use Rattle.lent.specs.Meaning.{lent};
+ghost use Rattle.lent_memory.specs.Meaning.{lent};
 ghost use Rattle.lent.specs.Calls.{left, called, openingIn, closingIn, askingIn, fetchingIn, deliveryIn};
 
 #[no_mangle]

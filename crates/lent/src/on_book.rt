@@ -1,16 +1,16 @@
 // The cores of the five calls, on the book of a lent list: what each leaves in the other memory, and the one record to write.
-use crate::changes::settle;
-use crate::records::Book;
-use crate::records::Ending;
-use crate::replies::amount_in;
-use crate::replies::asked_in;
-use crate::replies::broken;
-use crate::replies::call_fits;
-use crate::replies::change_number;
-use crate::replies::tell_fetched;
-use crate::replies::tell_status;
-use crate::rows::number_at;
-use crate::rows::shelf_in;
+use lent_memory::changes::settle;
+use lent_memory::records::Book;
+use lent_memory::records::Ending;
+use lent_memory::replies::amount_in;
+use lent_memory::replies::asked_in;
+use lent_memory::replies::broken;
+use lent_memory::replies::call_fits;
+use lent_memory::replies::change_number;
+use lent_memory::replies::tell_fetched;
+use lent_memory::replies::tell_status;
+use lent_memory::rows::number_at;
+use lent_memory::rows::shelf_in;
 ghost use Rattle.lent.specs.Calls.{openingIn, closingIn, askingIn, fetchingIn, deliveryIn};
 ghost use Rattle.lent.specs.Inner.{Ends};
 

@@ -11,7 +11,7 @@ use Rattle.shelf_state.specs.declared.records.Edition.{Edition}
 use Rattle.shelf_state.specs.declared.records.Key.{Key}
 use Rattle.shelf_state.specs.declared.records.Place.{Place}
 use Rattle.shelf_state.specs.declared.records.Watch.{Watch}
-use Rattle.lent.specs.Changes.{equalBool, equalEdition, equalPlace, equalWatch}
+use Rattle.lent_memory.specs.Changes.{equalBool, equalEdition, equalPlace, equalWatch}
 
 bool-self : (b : Bool) → equalBool b b ≡ true
 unfolding equalBool

@@ -22,14 +22,15 @@ use Rattle.shelf_state.specs.declared.records.Watch.{Watch}
 use Rattle.shelf.proofs.JudgeLaws.{judged-sound}
 use Rattle.shelf.proofs.OwnerLaws.{narrow, ready-edited, ready-place}
 use Rattle.shelf.specs.Calls.{fresh}
-use Rattle.shelf.specs.Delivery.{Ready, edited, hearing, keeping}
+use Rattle.shelf.specs.Inner.{Ready}
+use Rattle.shelf.specs.Delivery.{edited, hearing, keeping}
 use Rattle.shelf.specs.Views.{keyIn, sameEdition}
 use Rattle.shelf_laws.proofs.CloseLaws.{Closes, closedTo}
 use Rattle.shelf_laws.proofs.DeliverLaws.{Delivers, placeNow, storedTo}
 use Rattle.shelf_laws.proofs.OpenLaws.{Opens, openedTo}
 use Rattle.shelf_laws.proofs.ViewLaws.{found}
-use Rattle.lent.proofs.RowLaws.{clamp-le}
-use Rattle.lent.specs.Meaning.{LentState, meaning, numberAt, placeMeant, rowCount}
+use Rattle.lent_memory.proofs.RowLaws.{clamp-le}
+use Rattle.lent_memory.specs.Meaning.{LentState, meaning, numberAt, placeMeant, rowCount}
 use Rattle.lent_laws.proofs.MeaningLaws.{lent-count, lent-places, lent-records, lent-watches, past-lent, place-lent, rowsRead}
 use Rattle.lent_laws.proofs.TripLaws.{Made, Narrow}
 

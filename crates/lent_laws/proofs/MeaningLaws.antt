@@ -14,9 +14,9 @@ use Rattle.shelf_state.proofs.RecordLaws.{replicate-at}
 use Rattle.shelf_state.specs.Records.{watchAt, placeAt, blankWatch, blankPlace}
 use Rattle.shelf_state.specs.declared.records.Place.{Place}
 use Rattle.shelf_state.specs.declared.records.Watch.{Watch}
-use Rattle.lent.proofs.RowLaws.{clamp-le, rows-fit}
-use Rattle.lent.specs.Meaning.{LentState, blank, clamp, isOn, meaning, recordOf, placeMeant, rowCount, placesMeant, shelfIn, watchMeant, watchesMeant}
-use Rattle.lent.specs.declared.records.LentWatch.{LentWatch}
+use Rattle.lent_memory.proofs.RowLaws.{clamp-le, rows-fit}
+use Rattle.lent_memory.specs.Meaning.{LentState, blank, clamp, isOn, meaning, recordOf, placeMeant, rowCount, placesMeant, shelfIn, watchMeant, watchesMeant}
+use Rattle.lent_memory.specs.declared.records.LentWatch.{LentWatch}
 
 -- ---- a watch goes to a record and comes back
 pub on-one : (b : Bool) → isOn (one b) ≡ b

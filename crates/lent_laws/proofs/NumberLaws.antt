@@ -1,7 +1,7 @@
 -- No refusal has the number 0, so a call's number and reply tell its answer.
 use Prim.Native.Nat.{ℕ, zero, suc, _<_, _+_}
 use mathlib.Core.Path.{_≡_, refl}
-use mathlib.Core.Bool.{Bool, true, false}
+use mathlib.Core.Bool.{Bool, true, false, not}
 use mathlib.Core.List.{List}
 use native.Mathlib.Omega.{arith}
 use lib.Dec.{eqb, leb, ltb}
@@ -17,23 +17,24 @@ use Rattle.logic.specs.Choices.{ifEq, ifLt, pick}
 use Rattle.logic.specs.Loops.{any}
 use Rattle.part.specs.declared.Part.{Part}
 use Rattle.refusal.specs.Numbers.{numberOf}
-use Rattle.refusal.specs.Outcomes.{Outcome, refused, result}
+use Rattle.refusal.specs.Outcomes.{Outcome, refused, result, orRefuse}
 use Rattle.refusal.specs.declared.Refusal.{Refusal}
 use Rattle.refusal.specs.declared.Refusal.the-variants.{TooShort, OtherTable, Indicator, LengthRange, ByteCount, Checksum, ProtocolVersion, SectionNumber, Body, NotAReadPair, BrokenText, OutputShort, NoSuchEntry, ShelfBroken, OutOfRange, NotCurrent, NotWatched, AboveQuota, AlreadyWatched, NoRecordLeft, NoPlacesLeft, NotHeld, FieldTooLarge, SectionTooLong}
 use Rattle.section.specs.Headers.{checksumTest, headerBy, lengthTests, numberTests, ofKind}
-use Rattle.section.specs.Sections.{bodyTest, bodyWalk, plainly, sectionBy, verdictBy, walked, withBody}
+use Rattle.section.specs.Sections.{bodyTest, bodyWalk, plainly, sectionBy, verdictBy, byWalk, withBody}
 use Rattle.section.specs.declared.header.Header.{Header}
 use Rattle.shelf_state.specs.Records.{findWatch, isOf, watchIn}
 use Rattle.shelf_state.specs.declared.records.Asked.{Asked}
 use Rattle.shelf_state.specs.declared.records.Shelf.{Shelf}
 use Rattle.shelf_state.specs.declared.records.Watch.{Watch}
 use Rattle.shelf.specs.Answers.{After, Status, complete, part, unheard}
-use Rattle.shelf.specs.Calls.{closed, fetched, fetchedFrom, opened, openedInRange, orRefuse, statusAfter}
+use Rattle.shelf.specs.Calls.{closed, fetched, fetchedFrom, opened, openedInRange, orRefuseWith, statusAfter}
 use Rattle.shelf.specs.Delivery.{arriving, byJudge, delivered, delivering, done, forOwner, ownerIn, received, receivedAt}
 use Rattle.shelf.specs.Steps.{isResult}
 use Rattle.shelf.specs.Views.{judged, keyIn}
-use Rattle.lent.specs.Calls.{numberIn, partNumbers, replyAfter, statusNumbers}
-use Rattle.lent.specs.Meaning.{numberAt}
+use Rattle.refusal.specs.Outputs.{numberIn}
+use Rattle.lent_memory.specs.Replies.{partNumbers, replyAfter, statusNumbers}
+use Rattle.lent_memory.specs.Meaning.{numberAt}
 use Rattle.lent_laws.specs.Laws.{outcomeIn, partIn, statusIn}
 
 abbrev pub Numbered : {A : Type 0} → Outcome A → Type 0
@@ -118,7 +119,7 @@ unfolding ofKind
 kind-numbered s Nothing = omega arith
 kind-numbered s (Is k) = lengths-numbered _ k s
 
-body-numbered : (w : Walk) (h : Header) → Numbered (plainly (walked w h))
+body-numbered : (w : Walk) (h : Header) → Numbered (plainly (byWalk w h))
 body-numbered (To e) h = tt
 body-numbered (Bad e) h = omega arith
 
@@ -131,20 +132,21 @@ judged-numbered : (b : List ℕ) → Numbered (judged b)
 unfolding judged sectionBy verdictBy headerBy
 judged-numbered b = with-numbered (headerBy kindOf b) b (if-lt _ _ _ _ (omega arith) (kind-numbered b _))
 
-owner-picks : (a b c : Bool) (w : ℕ) → Numbered (pick {A = Outcome ℕ} a (refused 16) (pick b (pick c (result w) (refused 18)) (refused 17)))
+owner-picks : (a b c : Bool) (w : ℕ) → Numbered (orRefuse {A = ℕ} 16 (not a) (orRefuse 17 b (orRefuse 18 c (result w))))
+unfolding orRefuse
 owner-picks true b c w = omega arith
 owner-picks false false c w = omega arith
 owner-picks false true false w = omega arith
 owner-picks false true true w = tt
 
 owner-numbered : (ws : List Watch) (n : ℕ) (a : Asked) (h : Header) → Numbered (ownerIn ws n a h)
-unfolding ownerIn
+unfolding ownerIn orRefuse
 owner-numbered ws n a h =
     owner-picks (eqb (h .current) 0) (any n (λ i. isOf (watchIn ws i) a)) (leb (h .last + 1) (watchIn ws (findWatch ws n a) .quota)) (findWatch ws n a)
 
 -- ---- the calls
-chained : {A : Type 0} (n : ℕ) (s : Shelf) (b : Bool) (r : After A) → 0 < n → Numbered (r .outcome) → Numbered (orRefuse n s b r .outcome)
-unfolding orRefuse
+chained : {A : Type 0} (n : ℕ) (s : Shelf) (b : Bool) (r : After A) → 0 < n → Numbered (r .outcome) → Numbered (orRefuseWith n s b r .outcome)
+unfolding orRefuseWith
 chained n s true r h g = g
 chained n s false r h g = h
 

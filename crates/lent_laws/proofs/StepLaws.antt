@@ -21,9 +21,11 @@ use Rattle.shelf_laws.proofs.CloseLaws.{closing-passed}
 use Rattle.shelf_laws.proofs.DeliverLaws.{delivery-passed}
 use Rattle.shelf_laws.proofs.OpenLaws.{opening-passed}
 use Rattle.shelf_laws.proofs.StayLaws.{done-at, done-is, questions-stay, refused-stays}
-use Rattle.lent.specs.Calls.{called, lentCall, numberIn, partNumbers, replyAfter, callFits, statusNumbers}
-use Rattle.lent.specs.Changes.{recordsAfter, rowsAfter}
-use Rattle.lent.specs.Meaning.{LentState, clamp, lent, meaning}
+use Rattle.refusal.specs.Outputs.{numberIn}
+use Rattle.lent_memory.specs.Replies.{partNumbers, replyAfter, callFits, statusNumbers}
+use Rattle.lent.specs.Calls.{called, lentCall}
+use Rattle.lent_memory.specs.Changes.{recordsAfter, rowsAfter}
+use Rattle.lent_memory.specs.Meaning.{LentState, clamp, lent, meaning}
 use Rattle.lent_laws.proofs.MadeLaws.{closed-made, delivered-made, opened-made}
 use Rattle.lent_laws.proofs.NumberLaws.{closed-numbered, delivered-numbered, fetched-numbered, number-refused, opened-numbered, part-back, status-back, status-numbered, unit-back}
 use Rattle.lent_laws.proofs.TripLaws.{Made, kept-records, kept-rows, trip}

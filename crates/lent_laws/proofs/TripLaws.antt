@@ -17,10 +17,10 @@ use Rattle.logic.specs.Loops.{one}
 use Rattle.shelf_state.specs.Records.{watchAt, placeAt, blankWatch, blankPlace}
 use Rattle.shelf_state.specs.declared.records.Place.{Place}
 use Rattle.shelf_state.specs.declared.records.Shelf.{Shelf}
-use Rattle.lent.proofs.RowLaws.{written-length}
-use Rattle.lent.specs.Changes.{changedAt, compared, equalPlace, equalWatch, recordPut, recordsAfter, rowPut, rowsAfter, rowsBelow, writeRow}
-use Rattle.lent.specs.Meaning.{LentState, blank, clamp, isOn, lent, meaning, numberAt, recordOf, placeMeant, rowCount, watchMeant}
-use Rattle.lent.specs.declared.records.LentWatch.{LentWatch}
+use Rattle.lent_memory.proofs.RowLaws.{written-length}
+use Rattle.lent_memory.specs.Changes.{changedAt, compared, equalPlace, equalWatch, recordPut, recordsAfter, rowPut, rowsAfter, rowsBelow, writeRow}
+use Rattle.lent_memory.specs.Meaning.{LentState, blank, clamp, isOn, lent, meaning, numberAt, recordOf, placeMeant, rowCount, watchMeant}
+use Rattle.lent_memory.specs.declared.records.LentWatch.{LentWatch}
 use Rattle.lent_laws.proofs.EqualLaws.{from-place, from-watch, place-self, watch-self}
 use Rattle.lent_laws.proofs.MeaningLaws.{back, lent-count, lent-places, lent-records, lent-watches, on-one, past-lent, place-lent, row-fits, rowsRead, watch-lent}
 

@@ -11,8 +11,8 @@ use Rattle.shelf_state.specs.Records.{emptyShelf}
 use Rattle.shelf.specs.Answers.{Status, complete, part, unheard}
 use Rattle.shelf.specs.Steps.{Answer, State, Turn, areaThen, did, fetchedBytes, gave, lentTo, step, told}
 use Rattle.shelf.specs.Views.{Call, asks, closes, delivers, fetches, opens}
-use Rattle.lent.specs.Calls.{Left, Reading, called, lentCall}
-use Rattle.lent.specs.Meaning.{LentState, blank, lent, meaning, numberAt, rowSize}
+use Rattle.lent.specs.Calls.{Left, CallIn, called, lentCall}
+use Rattle.lent_memory.specs.Meaning.{LentState, blank, lent, meaning, numberAt, rowSize}
 
 -- ---- the shelf and the area that lent memory means
 abbrev pub stateOf : LentState → State
@@ -60,7 +60,7 @@ LentStepLaw =
 -- ---- a call that is refused changes nothing that it is lent: no record, no number of a row, no byte of the area, no number of the reply
 abbrev pub RefusedKeeps : Type 0
 RefusedKeeps =
-    (f : Reading) (x : LentState) (b q y : List ℕ) → 0 < called f x b q y .number → (called f x b q y .state ≡ x) × (called f x b q y .reply ≡ y)
+    (f : CallIn) (x : LentState) (b q y : List ℕ) → 0 < called f x b q y .number → (called f x b q y .state ≡ x) × (called f x b q y .reply ≡ y)
 
 -- ---- memory of zeros alone is a shelf with nothing on it
 abbrev pub ZeroEmpty : Type 0

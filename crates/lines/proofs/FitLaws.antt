@@ -21,7 +21,7 @@ use Rattle.format.specs.Laws.OfBytes.{part-bytes}
 use Rattle.format.specs.Laws.OfValues.{vals-fit}
 use Rattle.section.specs.declared.header.Header.{Header}
 use Rattle.section.specs.Headers.{headerBy, ofKind, lengthTests, checksumTest, numberTests}
-use Rattle.section.specs.Sections.{bodyWalk, walked, bodyTest, withBody, verdictBy, plainly, sectionBy}
+use Rattle.section.specs.Sections.{bodyWalk, byWalk, bodyTest, withBody, verdictBy, plainly, sectionBy}
 use Rattle.strings.specs.Places.{textAt, textEnd}
 use Rattle.descriptor.specs.Places.{listEnd}
 use Rattle.eit.specs.declared.event.Event.{Event}
@@ -121,7 +121,7 @@ module _ (s : List ℕ) (z : Bytes s) where
   unfolding headerBy
   header-told = lt-either Told _ _ (omega arith) (kind-told (kindOf (byteAt s 0))) _ _
 
-  body-told : (w : Walk) (h : Header) → Told (result h) → Told (plainly (walked w h))
+  body-told : (w : Walk) (h : Header) → Told (result h) → Told (plainly (byWalk w h))
   body-told (To e) h t = t
   body-told (Bad x) h t = omega arith
 

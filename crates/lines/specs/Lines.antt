@@ -13,6 +13,7 @@ use Rattle.section.specs.Sections.{sectionBy}
 use Rattle.shown.specs.Ascii.{ascii, decimal, field}
 use Rattle.shown.specs.Titles.{titleShown}
 
+-- the word of a kind, with a space on either side
 unfoldable pub kindWord : Kind → List ℕ
 kindWord Mgt = ascii " mgt "
 kindWord Tvct = ascii " tvct "

@@ -13,7 +13,7 @@ use Rattle.listing.specs.declared.Stepped.{Stepped}
 use Rattle.listing.specs.Steps.{stepOf, Tells}
 use Rattle.listing.specs.Runs.{Steps, allSteps}
 use Rattle.listing.proofs.NextLaws.{Alike, record-taken, wait-few, on-behind, wait-here}
-use Rattle.lister.specs.Reading.{inHand, Stands}
+use Rattle.lister.specs.Reading.{inHand, StepsTaken}
 use Rattle.lister.specs.declared.Answered.{Answered}
 
 pub alike : (x : Steps) → Alike x x
@@ -42,7 +42,7 @@ module _ (number : ℕ) (s : List ℕ) (i : Input) (n at : ℕ) {l e : List ℕ}
       rw add-one (subst (λ (x : List ℕ). Alike (allSteps number s i) (allSteps (suc n) x i)) d a)
 
   pub stands : r .next ≡ Wait → at ≤ length s → Alike (allSteps number s i) (allSteps n (drop at s) i)
-      → Stands number s i (record { number = n; taken = at; more = true })
+      → StepsTaken number s i (record { number = n; taken = at; more = true })
   stands q h p =
       let w = sym (t .next) ∙ q in
       let here = wait-here n (drop at s) i w in
@@ -60,7 +60,7 @@ still true e = refl
 still false e = sym e
 
 -- so what is left in hand is shorter than a record
-pub left-over : (room : List ℕ) (from to n : ℕ) (i : Input) {r : Answered} → from ≤ to → to ≤ length room → Stands n (inHand room from to) i r
+pub left-over : (room : List ℕ) (from to n : ℕ) (i : Input) {r : Answered} → from ≤ to → to ≤ length room → StepsTaken n (inHand room from to) i r
     → (from + r .taken ≤ to) × (to - (from + r .taken) < 4102)
 left-over room from to n i h g s =
     let k = length-take-le (to - from) (drop from room) (omega (arith, length-drop from room, h, g)) in

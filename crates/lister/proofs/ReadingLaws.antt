@@ -17,25 +17,25 @@ use mir.ValLaws.{toZ-ofZ}
 use Rattle.bytes_put.proofs.PutLaws.{copy-more}
 use Rattle.listing.specs.declared.Input.{Input}
 use Rattle.listing.specs.declared.Input.the-variants.{More, Ended}
-use Rattle.lister.specs.Reading.{inHand, Means, Fetched}
+use Rattle.lister.specs.Reading.{inHand, ReadMeans, Fetched}
 use Rattle.lister.specs.declared.Hand.{Hand}
 
 -- ---- what a read tells
-pub more-read : (z : ℤ) → SFits w64 z → ltZ (pos 0) (toZ w64 (ofZ w64 z)) ≡ true → Means z More
+pub more-read : (z : ℤ) → SFits w64 z → ltZ (pos 0) (toZ w64 (ofZ w64 z)) ≡ true → ReadMeans z More
 more-read z f e = by z (ap (ltZ (pos 0)) (sym (toZ-ofZ w64 z f)) ∙ e)
   where
-    by : (z : ℤ) → ltZ (pos 0) z ≡ true → Means z More
+    by : (z : ℤ) → ltZ (pos 0) z ≡ true → ReadMeans z More
     by (pos zero) e = absurd (omega (arith, ltb-true 0 0 e))
     by (pos (suc k)) e = refl
     by (negsuc k) e = let x : _≡_ {A = ℕ} 0 1 = cc in absurd (omega arith)
 
-pub none-read : (z : ℤ) → SFits w64 z → ofZ w64 z ≡ 0 → Means z Ended
-none-read z f e = subst (λ (y : ℤ). Means y Ended) (ap (toZ w64) (sym e) ∙ toZ-ofZ w64 z f) refl
+pub none-read : (z : ℤ) → SFits w64 z → ofZ w64 z ≡ 0 → ReadMeans z Ended
+none-read z f e = subst (λ (y : ℤ). ReadMeans y Ended) (ap (toZ w64) (sym e) ∙ toZ-ofZ w64 z f) refl
 
-pub failed : (z : ℤ) (i : Input) → (i ≡ Ended → ⊥) → SFits w64 z → ltZ (pos 0) (toZ w64 (ofZ w64 z)) ≡ false → (ofZ w64 z ≡ 0 → ⊥) → Means z i
+pub failed : (z : ℤ) (i : Input) → (i ≡ Ended → ⊥) → SFits w64 z → ltZ (pos 0) (toZ w64 (ofZ w64 z)) ≡ false → (ofZ w64 z ≡ 0 → ⊥) → ReadMeans z i
 failed z i g f e h = by z (ap (ltZ (pos 0)) (sym (toZ-ofZ w64 z f)) ∙ e) h
   where
-    by : (z : ℤ) → ltZ (pos 0) z ≡ false → (ofZ w64 z ≡ 0 → ⊥) → Means z i
+    by : (z : ℤ) → ltZ (pos 0) z ≡ false → (ofZ w64 z ≡ 0 → ⊥) → ReadMeans z i
     by (pos zero) e h = absurd (h refl)
     by (pos (suc k)) e h = absurd (omega (arith, ltb-false 0 (suc k) e))
     by (negsuc k) e h = g

@@ -16,10 +16,10 @@ abbrev pub inHand : List ℕ → ℕ → ℕ → List ℕ
 inHand room from to = take (to - from) (drop from room)
 
 -- SCOPE 8.6: what a read means for the input. One that fails is no end
-abbrev pub Means : ℤ → Input → Type 0
-Means (pos zero) i = i ≡ Ended
-Means (pos (suc k)) i = i ≡ More
-Means (negsuc k) i = i ≡ Ended → ⊥
+abbrev pub ReadMeans : ℤ → Input → Type 0
+ReadMeans (pos zero) i = i ≡ Ended
+ReadMeans (pos (suc k)) i = i ≡ More
+ReadMeans (negsuc k) i = i ≡ Ended → ⊥
 
 -- behind what was in hand in the room l stands what was read, in the room e
 pub record Fetched (l : List ℕ) (from to : ℕ) (h : Hand) (e : List ℕ) : Type 0 where
@@ -29,7 +29,7 @@ pub record Fetched (l : List ℕ) (from to : ℕ) (h : Hand) (e : List ℕ) : Ty
   pub kept : take (to - from) (inHand e (h .from) (h .to)) ≡ inHand l from to
 
 -- where the run goes on, all steps were taken that the bytes in hand allow
-pub record Stands (n : ℕ) (s : List ℕ) (i : Input) (r : Answered) : Type 0 where
+pub record StepsTaken (n : ℕ) (s : List ℕ) (i : Input) (r : Answered) : Type 0 where
   pub within : r .taken ≤ length s
   pub few : length s - r .taken < 4102
   pub number : allSteps n s i .number ≡ r .number

@@ -11,7 +11,7 @@ ghost use mathlib.Core.Bool.{true};
 ghost use Prim.Native.Nat.{_-_, _≤_, _<_};
 ghost use lib.ListN.{length};
 ghost use lib.Seq.{sets};
-ghost use Rattle.lister.specs.Reading.{inHand, Means, Fetched, Stands};
+ghost use Rattle.lister.specs.Reading.{inHand, ReadMeans, Fetched, StepsTaken};
 
 // Room for the input, and for the lines of any record.
 const ROOM: usize = 65536;
@@ -34,7 +34,7 @@ struct Answered {
 
 // A read that a signal interrupted is tried again.
 fn input_after(got: isize) -> Input
-    ensures { λ r. ⌜ Means got r ⌝ }
+    ensures { λ r. ⌜ ReadMeans got r ⌝ }
 {
     if got > 0 {
         return Input::More;
@@ -90,7 +90,7 @@ fn fetch(room: &mut [u8], from: usize, to: usize) -> Hand
 
 // Every record that is in hand, until more input is needed. The run goes on unless it is over or the output takes no more.
 fn answer(number: usize, held: &[u8], input: Input, out: &mut [u8]) -> Answered
-    ensures { λ r. ⌜ (r .more ≡ true → Stands number (now (held .entry)) input r) ⌝ }
+    ensures { λ r. ⌜ (r .more ≡ true → StepsTaken number (now (held .entry)) input r) ⌝ }
 {
     let mut n = number;
     let mut at = 0;

@@ -4,7 +4,7 @@ use Rattle.checksum.specs.Register.{registerFrom, bitsIn, bitIn, poly}
 use Rattle.logic.specs.Choices.{ifLt, ifEq}
 use Rattle.kind.specs.Kinds.{kindOf}
 use Rattle.refusal.specs.Outcomes.{after}
-use Rattle.bytes_at.specs.Walks.{skipTo, bitsTo, fieldsTo, then, many, ends}
+use Rattle.bytes_at.specs.Walks.{skipTo, bitsTo, fieldsTo, then, many, ends, standing}
 use Rattle.bytes_at.specs.Bits.{bitAt, bitsAt}
 use Rattle.format.specs.Lawful.{unto}
 use Rattle.strings.specs.Places.{textAt, textEnd}
@@ -12,7 +12,7 @@ use Rattle.strings.specs.Strings.{segment, string, structure, text, sizedText}
 use Rattle.descriptor.specs.Descriptors.{content, descriptor, descriptors, list12}
 use Rattle.descriptor.specs.Places.{listAt, listEnd}
 use Rattle.text.specs.Segments.{wayOf, pairs, utf16Units, unitsBy, segmentUnits}
-use Rattle.text.specs.Strings.{standing, stringCount, stringAt, joined, joinedUnits, stringUnits}
+use Rattle.text.specs.Strings.{stringCount, stringAt, joined, joinedUnits, stringUnits}
 use Rattle.eit.specs.Format.{event, events, eit}
 use Rattle.eit.specs.Fields.{titlePart, titleAt, descriptorsAt, eventAt, eventEnd}
 use Rattle.eit.specs.Titles.{titleOf}

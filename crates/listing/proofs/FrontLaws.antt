@@ -13,7 +13,7 @@ use Rattle.bytes_at.specs.Fields.{wordAt}
 use Rattle.record.specs.Records.{markIn, lengthIn, sectionIn, headSize, toCome, whole}
 use Rattle.record.proofs.RecordLaws.{cut-off, all-there}
 use Rattle.lines.specs.Records.{recordLines}
-use Rattle.listing.specs.Listing.{behind}
+use Rattle.listing.specs.Listing.{afterRecord}
 
 pub data Front (s : List ℕ) : Type 0 where
   short : length s < headSize + toCome s → whole s ≡ false → Front s
@@ -73,7 +73,7 @@ module _ (s t : List ℕ) (long : headSize ≤ length s) where
   length-kept = ap (λ (k : ℕ). k % 4096) (word-kept 5 (omega arith))
 
   module _ (all : headSize + lengthIn s ≤ length s) where
-    pub behind-kept : behind (s ++ t) ≡ behind s ++ t
+    pub behind-kept : afterRecord (s ++ t) ≡ afterRecord s ++ t
     behind-kept = ap (λ (k : ℕ). drop (headSize + k) (s ++ t)) length-kept ∙ drop-append-le (headSize + lengthIn s) s t all
 
     section-kept : sectionIn (s ++ t) ≡ sectionIn s

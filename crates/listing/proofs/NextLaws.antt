@@ -8,9 +8,9 @@ use lib.ListN.{length, drop, length-drop}
 use Rattle.shown.proofs.BothLaws.{lt-either, eq-either}
 use Rattle.record.specs.Records.{markIn, headSize, lengthIn, toCome}
 use Rattle.lines.specs.Records.{lastLine, badLines}
-use Rattle.listing.specs.Listing.{behind}
+use Rattle.listing.specs.Listing.{afterRecord}
 use Rattle.listing.specs.Steps.{Step, over, shortStep, fullStep, stepOf}
-use Rattle.listing.specs.Runs.{Steps, after, stepsOf, allSteps}
+use Rattle.listing.specs.Runs.{Steps, goingOn, stepsOf, allSteps}
 use Rattle.listing.specs.declared.Input.{Input}
 use Rattle.listing.specs.declared.Input.the-variants.{More, Ended, Unread}
 use Rattle.listing.specs.declared.Next.{Next}
@@ -69,8 +69,8 @@ module _ (n : ℕ) (s : List ℕ) (i : Input) where
 
 -- ---- all the steps
 module _ (i : Input) where
-  over-alone : (n : ℕ) (s : List ℕ) (x : Step) (a : Next) (r u : Steps) → (a ≡ Record → ⊥) → after n s x a r ≡ after n s x a u
-  unfolding after
+  over-alone : (n : ℕ) (s : List ℕ) (x : Step) (a : Next) (r u : Steps) → (a ≡ Record → ⊥) → goingOn n s x a r ≡ goingOn n s x a u
+  unfolding goingOn
   over-alone n s x Record r u h = absurd (h refl)
   over-alone n s x Wait r u h = refl
   over-alone n s x Over r u h = refl
@@ -93,7 +93,7 @@ module _ (i : Input) where
   enough-some m ih zero n s h g (found l w) = absurd (omega (arith, l, g))
   enough-some m ih (suc k) n s h g (found l w) =
       found-steps (suc m) n s i l w
-      ∙ ap (then n s) (ih k (suc n) (behind s) (behind-fewer s m l h) (behind-fewer s k l g))
+      ∙ ap (then n s) (ih k (suc n) (afterRecord s) (behind-fewer s m l h) (behind-fewer s k l g))
       ∙ sym (found-steps (suc k) n s i l w)
 
   enough : (m : ℕ) → Enough m
@@ -110,15 +110,15 @@ pub record Alike (x y : Steps) : Type 0 where
   pub held : x .held ≡ y .held
   pub next : x .next ≡ y .next
 
-behind-record : (n : ℕ) (s : List ℕ) (x : Step) {r u : Steps} → r ≡ u → Alike (after n s x Record r) u
-unfolding after
+behind-record : (n : ℕ) (s : List ℕ) (x : Step) {r u : Steps} → r ≡ u → Alike (goingOn n s x Record r) u
+unfolding goingOn
 behind-record n s x e =
     record { number = ap (λ (y : Steps). y .number) e; held = ap (λ (y : Steps). y .held) e; next = ap (λ (y : Steps). y .next) e }
 
 module _ (n : ℕ) (s : List ℕ) (i : Input) where
   step-after : (a : Next) → stepOf n s i .next ≡ a
-      → allSteps n s i ≡ after n s (stepOf n s i) a (stepsOf (length s) (suc n) (drop (stepOf n s i .taken) s) i)
-  step-after a q = taking (length s) n s i refl ∙ ap (λ (b : Next). after n s (stepOf n s i) b (stepsOf (length s) (suc n) (drop (stepOf n s i .taken) s) i)) q
+      → allSteps n s i ≡ goingOn n s (stepOf n s i) a (stepsOf (length s) (suc n) (drop (stepOf n s i .taken) s) i)
+  step-after a q = taking (length s) n s i refl ∙ ap (λ (b : Next). goingOn n s (stepOf n s i) b (stepsOf (length s) (suc n) (drop (stepOf n s i .taken) s) i)) q
 
   -- behind a record the steps go on
   pub on-behind : stepOf n s i .next ≡ Record → Alike (allSteps n s i) (allSteps (suc n) (drop (stepOf n s i .taken) s) i)
@@ -129,5 +129,5 @@ module _ (n : ℕ) (s : List ℕ) (i : Input) where
       subst (λ (x : Steps). Alike x (allSteps (suc n) (drop t s) i)) (sym (step-after Record q)) (behind-record n s (stepOf n s i) e)
 
   pub wait-here : stepOf n s i .next ≡ Wait → allSteps n s i ≡ record { lines = stepOf n s i .lines; number = n; held = s; next = Wait }
-  unfolding after
+  unfolding goingOn
   wait-here q = step-after Wait q

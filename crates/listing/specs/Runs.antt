@@ -1,4 +1,4 @@
--- The lister's run over input that comes in pieces: a piece is put behind what is in hand, and steps are taken until more input is needed.
+-- SCOPE 8, as the program runs: input that comes in pieces; a piece is put behind what is in hand, and steps are taken until more input is needed.
 use Prim.Native.Nat.{ℕ, zero, suc}
 use mathlib.Core.List.{List, [], _∷_, _++_}
 use lib.ListN.{length, drop}
@@ -18,15 +18,15 @@ pub record Steps : Type 0 where
   pub next : Next
 
 -- a step, and behind one that took a record the steps that follow it
-unfoldable pub after : ℕ → List ℕ → Step → Next → Steps → Steps
-after n s x Record r = record { lines = x .lines ++ r .lines; number = r .number; held = r .held; next = r .next }
-after n s x Wait r = record { lines = x .lines; number = n; held = s; next = Wait }
-after n s x Over r = record { lines = x .lines; number = n; held = s; next = Over }
+unfoldable pub goingOn : ℕ → List ℕ → Step → Next → Steps → Steps
+goingOn n s x Record r = record { lines = x .lines ++ r .lines; number = r .number; held = r .held; next = r .next }
+goingOn n s x Wait r = record { lines = x .lines; number = n; held = s; next = Wait }
+goingOn n s x Over r = record { lines = x .lines; number = n; held = s; next = Over }
 
 -- steps while they take records, at most `most`: a record has bytes, so one more than there are bytes is enough
 unfoldable pub stepsOf : ℕ → ℕ → List ℕ → Input → Steps
 stepsOf zero n s i = record { lines = []; number = n; held = s; next = Record }
-stepsOf (suc most) n s i = after n s (stepOf n s i) (stepOf n s i .next) (stepsOf most (suc n) (drop (stepOf n s i .taken) s) i)
+stepsOf (suc most) n s i = goingOn n s (stepOf n s i) (stepOf n s i .next) (stepsOf most (suc n) (drop (stepOf n s i .taken) s) i)
 
 abbrev pub allSteps : ℕ → List ℕ → Input → Steps
 allSteps n s i = stepsOf (suc (length s)) n s i
@@ -52,6 +52,6 @@ unfoldable pub runs : List (List ℕ) → Ending → List ℕ
 runs ps e = firstLine ++ runFrom 0 [] ps e
 
 -- the pieces as one input
-abbrev pub joined : List (List ℕ) → List ℕ
-joined [] = []
-joined (p ∷ ps) = p ++ joined ps
+abbrev pub wholeInput : List (List ℕ) → List ℕ
+wholeInput [] = []
+wholeInput (p ∷ ps) = p ++ wholeInput ps

@@ -1,4 +1,4 @@
--- What one step over the bytes in hand does: the record at their front, or where the run stands without one.
+-- SCOPE 8.1, 8.4 and 8.6, step by step: what one step over the bytes in hand does: the record at their front, or where the run stands without one.
 use Prim.Native.Nat.{ℕ, _+_}
 use mathlib.Core.Path.{_≡_}
 use mathlib.Core.Bool.{Bool, true, false}

@@ -5,7 +5,7 @@ use Rattle.checksum.specs.Register.{sealed, fourBytes}
 use Rattle.checksum.proofs.Sealing.{sealed-sound}
 use Rattle.logic.specs.Choices.{ifLt, ifEq}
 use Rattle.kind.specs.Kinds.{kindOf, onlyOf}
-use Rattle.bytes_at.specs.Walks.{skipTo, bitsTo, fieldsTo, then, many, ends}
+use Rattle.bytes_at.specs.Walks.{skipTo, bitsTo, fieldsTo, then, many, ends, standing}
 use Rattle.format.specs.Lawful.{unto}
 use Rattle.bytes_at.specs.Bits.{bitAt, bitsAt}
 use Rattle.strings.specs.Places.{textAt, textEnd}
@@ -15,32 +15,39 @@ use Rattle.descriptor.specs.Places.{listAt}
 use Rattle.mgt.specs.Format.{defined, tables, mgt}
 use Rattle.channel.specs.Format.{channel}
 use Rattle.tvct.specs.Format.{channels, tvct}
-use Rattle.rrt.specs.Format.{value, dimension, dimensions, rest, rrt}
+use Rattle.rrt.specs.Format.{value, dimension, dimensions, dimensionsAndList, rrt}
 use Rattle.eit.specs.Format.{event, events, eit}
 use Rattle.eit.specs.Fields.{titlePart, titleAt, descriptorsAt, eventAt}
 use Rattle.eit.specs.Titles.{titleOf}
 use Rattle.ett.specs.Format.{ett}
 use Rattle.section.specs.Bodies.{bodyOf}
-use Rattle.entry.specs.Entries.{formatOf, countOf, firstOf, entryWalk, spotIn, spotOf}
+use Rattle.entry.specs.Entries.{formatOf, entryCount, firstEntry, entryWalk, spotIn, spotOf}
 use Rattle.section.specs.Headers.{headerBy, ofKind, lengthTests, checksumTest, numberTests}
 use Rattle.section.specs.Sections.{sectionBy, verdictBy, withBody, bodyTest}
-use Rattle.refusal.specs.Outcomes.{after}
-use Rattle.reading.specs.Eits.{entryOf}
+use Rattle.refusal.specs.Outcomes.{after, orRefuse}
+use Rattle.reading.specs.Eits.{fieldsOf, entryOf}
+use Rattle.section_text.specs.Fields.{titleIn, fieldOf}
+use Rattle.section_text.specs.Texts.{textUnits}
 use Rattle.logic.specs.Loops.{_&_, _⇒_, all, any, sum, first, each}
 use Rattle.shelf_state.specs.Records.{sameKey, isOf, holdsFor, holds, release, emptyShelf}
 use Rattle.shelf_state.specs.Rules.{quotaOf, watchable, inRange, keysDiffer, quotasFit, placesOwned, noneTwice, noneAboveQuota, lastBelowQuota, unheardEmpty, lengthsFit, keysInRange, sizesInRange, sizesFit, obeys}
-use Rattle.shelf.specs.Calls.{orRefuse, made, openedInRange, opened, closed}
-use Rattle.shelf.specs.Delivery.{ownerIn, forOwner, edited, placeAmong, receivedAt, received, byJudge, arriving, delivering, delivered}
+use Rattle.shelf.specs.Calls.{orRefuseWith, made, openedInRange, opened, closed, fetchedFrom, fetched}
+use Rattle.shelf.specs.Delivery.{ownerIn, forOwner, edited, placeAmong, receivedAt, received, byJudge, arriving, delivering, delivered, areaAfter}
 use Rattle.shelf.specs.Views.{judged, sameEdition}
 use Rattle.text.specs.Segments.{wayOf, pairs, utf16Units, unitsBy, segmentUnits}
-use Rattle.text.specs.Strings.{standing, stringCount, stringAt, joined, joinedUnits, stringUnits}
+use Rattle.text.specs.Strings.{stringCount, stringAt, joined, joinedUnits, stringUnits}
 use Rattle.text.specs.Texts.{ofField, fieldUnits}
+use Rattle.record.specs.Records.{whole}
+use Rattle.shown.specs.Ascii.{decimalBy, decimal, field}
+use Rattle.lines.specs.Lines.{kindWord, keyShown, editionShown, eventLines, eventsShown, restShown, refusalShown, outcomeShown, sectionShown}
+use Rattle.lines.specs.Records.{lastLine, recordLines}
+use Rattle.listing.specs.Listing.{stopLines, linesFrom, listing}
 use Rattle.marked.specs.Sections.{eit11, eit4093, tvct1021, mgt14, rrt18, ett15, teaSection, noTitle, zeroTitle}
-use Rattle.marked.specs.Marked.{P1, P2, P3, P4, P5, P6, P7, P8, P9, P10, P11, P12, P13, Says, marked, All}
+use Rattle.marked.specs.Marked.{P1, P2, P3, P4, P5, P6, P7, P8, P9, P10, P11, P12, P13, Says, marked, AllHold}
 
 p1 : Says P1
-unfolding headerBy ofKind lengthTests checksumTest numberTests ifLt ifEq kindOf sealed fourBytes sectionBy verdictBy withBody bodyTest bodyOf then many ends skipTo bitsTo fieldsTo unto segment string structure text sizedText content descriptor descriptors list12 eit events event
-p1 = (rw (sealed-sound (eit11 0 0)), refl)
+unfolding headerBy ofKind lengthTests checksumTest numberTests ifLt ifEq kindOf sealed fourBytes sectionBy verdictBy withBody bodyTest bodyOf then many ends skipTo bitsTo fieldsTo unto segment string structure text sizedText content descriptor descriptors list12 eit events event onlyOf after fieldsOf
+p1 = (rw (sealed-sound (eit11 0 0)), (refl, (rw (sealed-sound (eit11 0 0)), refl)))
 
 p2 : Says P2
 unfolding headerBy ofKind lengthTests checksumTest numberTests ifLt ifEq kindOf sealed fourBytes sectionBy verdictBy withBody bodyTest bodyOf then many ends skipTo bitsTo fieldsTo unto segment string structure text sizedText content descriptor descriptors list12 eit events event
@@ -55,7 +62,7 @@ unfolding headerBy ofKind lengthTests checksumTest numberTests ifLt ifEq kindOf 
 p4 = (rw (sealed-sound mgt14), refl)
 
 p5 : Says P5
-unfolding headerBy ofKind lengthTests checksumTest numberTests ifLt ifEq kindOf sealed fourBytes sectionBy verdictBy withBody bodyTest bodyOf then many ends skipTo bitsTo fieldsTo unto segment string structure text sizedText content descriptor descriptors list10 rrt rest dimensions dimension value
+unfolding headerBy ofKind lengthTests checksumTest numberTests ifLt ifEq kindOf sealed fourBytes sectionBy verdictBy withBody bodyTest bodyOf then many ends skipTo bitsTo fieldsTo unto segment string structure text sizedText content descriptor descriptors list10 rrt dimensionsAndList dimensions dimension value
 p5 = (rw (sealed-sound rrt18), refl)
 
 p6 : Says P6
@@ -67,19 +74,19 @@ unfolding headerBy ofKind lengthTests checksumTest numberTests ifLt ifEq kindOf 
 p7 = (rw (sealed-sound (eit11 3 3)), rw (sealed-sound (eit11 4 3)))
 
 p8 : Says P8
-unfolding headerBy ofKind lengthTests checksumTest numberTests ifLt ifEq kindOf sealed fourBytes sectionBy verdictBy withBody bodyTest bodyOf then many ends skipTo bitsTo fieldsTo unto segment string structure text sizedText content descriptor descriptors list12 eit events event onlyOf after formatOf countOf firstOf entryWalk spotIn spotOf entryOf bitAt bitsAt textAt textEnd listAt titlePart titleAt titleOf descriptorsAt eventAt
+unfolding headerBy ofKind lengthTests checksumTest numberTests ifLt ifEq kindOf sealed fourBytes sectionBy verdictBy withBody bodyTest bodyOf then many ends skipTo bitsTo fieldsTo unto segment string structure text sizedText content descriptor descriptors list12 eit events event onlyOf after formatOf entryCount firstEntry entryWalk standing spotIn spotOf entryOf bitAt bitsAt textAt textEnd listAt titlePart titleAt titleOf descriptorsAt eventAt
 p8 = (rw (sealed-sound noTitle), rw (sealed-sound zeroTitle))
 
 p9 : Says P9
-unfolding headerBy ofKind lengthTests checksumTest numberTests ifLt ifEq kindOf sealed fourBytes sectionBy verdictBy withBody bodyTest bodyOf then many ends skipTo bitsTo fieldsTo unto segment string structure text sizedText content descriptor descriptors list12 eit events event
-p9 = (refl, (refl, (refl, rw (sealed-sound teaSection))))
+unfolding headerBy ofKind lengthTests checksumTest numberTests ifLt ifEq kindOf sealed fourBytes sectionBy verdictBy withBody bodyTest bodyOf then many ends skipTo bitsTo fieldsTo unto segment string structure text sizedText content descriptor descriptors list12 eit events event onlyOf after formatOf entryCount firstEntry entryWalk spotIn spotOf entryOf bitAt bitsAt textAt textEnd listAt titlePart titleAt titleOf descriptorsAt eventAt titleIn fieldOf textUnits wayOf pairs unitsBy segmentUnits standing stringCount stringAt joined joinedUnits stringUnits
+p9 = (refl, (refl, (refl, (rw (sealed-sound teaSection), (rw (sealed-sound teaSection), rw (sealed-sound teaSection))))))
 
 p10 : Says P10
-unfolding headerBy ofKind lengthTests checksumTest numberTests ifLt ifEq kindOf sealed fourBytes sectionBy verdictBy withBody bodyTest bodyOf then many ends skipTo bitsTo fieldsTo unto segment string structure text sizedText content descriptor descriptors list12 eit events event _&_ _⇒_ all any sum first each sameKey isOf holdsFor holds release emptyShelf quotaOf watchable inRange keysDiffer quotasFit placesOwned noneTwice noneAboveQuota lastBelowQuota unheardEmpty lengthsFit keysInRange sizesInRange sizesFit obeys orRefuse made openedInRange opened closed judged ownerIn forOwner sameEdition edited placeAmong receivedAt received byJudge arriving delivering delivered
-p10 = (rw (sealed-sound (eit11 0 0)), rw (sealed-sound (eit11 0 1)))
+unfolding headerBy ofKind lengthTests checksumTest numberTests ifLt ifEq kindOf sealed fourBytes sectionBy verdictBy withBody bodyTest bodyOf then many ends skipTo bitsTo fieldsTo unto segment string structure text sizedText content descriptor descriptors list12 eit events event _&_ _⇒_ all any sum first each sameKey isOf holdsFor holds release emptyShelf quotaOf watchable inRange keysDiffer quotasFit placesOwned noneTwice noneAboveQuota lastBelowQuota unheardEmpty lengthsFit keysInRange sizesInRange sizesFit obeys orRefuseWith made openedInRange opened closed judged ownerIn forOwner sameEdition edited placeAmong receivedAt received byJudge arriving delivering delivered areaAfter fetchedFrom fetched orRefuse
+p10 = (rw (sealed-sound (eit11 0 0)), (rw (sealed-sound (eit11 0 0)), (rw (sealed-sound (eit11 0 1)), rw (sealed-sound (eit11 0 1)))))
 
 p11 : Says P11
-unfolding ifLt ifEq kindOf _&_ _⇒_ all any sum first each sameKey isOf holdsFor holds release emptyShelf quotaOf watchable inRange keysDiffer quotasFit placesOwned noneTwice noneAboveQuota lastBelowQuota unheardEmpty lengthsFit keysInRange sizesInRange sizesFit obeys orRefuse made openedInRange opened closed
+unfolding ifLt ifEq kindOf _&_ _⇒_ all any sum first each sameKey isOf holdsFor holds release emptyShelf quotaOf watchable inRange keysDiffer quotasFit placesOwned noneTwice noneAboveQuota lastBelowQuota unheardEmpty lengthsFit keysInRange sizesInRange sizesFit obeys orRefuseWith made openedInRange opened closed
 p11 = (refl, refl)
 
 p12 : Says P12
@@ -87,8 +94,8 @@ unfolding ifLt ifEq skipTo bitsTo fieldsTo then many ends after segment string s
 p12 = (refl, refl)
 
 p13 : Says P13
-unfolding headerBy ofKind lengthTests checksumTest numberTests ifLt ifEq kindOf sealed fourBytes sectionBy verdictBy withBody bodyTest bodyOf then many ends skipTo bitsTo fieldsTo unto segment string structure text sizedText content descriptor descriptors list12 eit events event _&_ _⇒_ all any sum first each sameKey isOf holdsFor holds release emptyShelf quotaOf watchable inRange keysDiffer quotasFit placesOwned noneTwice noneAboveQuota lastBelowQuota unheardEmpty lengthsFit keysInRange sizesInRange sizesFit obeys orRefuse made openedInRange opened closed judged ownerIn forOwner sameEdition edited placeAmong receivedAt received byJudge arriving delivering delivered
-p13 = (refl, (refl, (rw (sealed-sound (eit11 0 0)), refl)))
+unfolding headerBy ofKind lengthTests checksumTest numberTests ifLt ifEq kindOf sealed fourBytes sectionBy verdictBy withBody bodyTest bodyOf then many ends skipTo bitsTo fieldsTo unto segment string structure text sizedText content descriptor descriptors list12 eit events event _&_ _⇒_ all any sum first each sameKey isOf holdsFor holds release emptyShelf quotaOf watchable inRange keysDiffer quotasFit placesOwned noneTwice noneAboveQuota lastBelowQuota unheardEmpty lengthsFit keysInRange sizesInRange sizesFit obeys orRefuseWith made openedInRange opened closed judged ownerIn forOwner sameEdition edited placeAmong receivedAt received byJudge arriving delivering delivered bitAt bitsAt whole decimalBy decimal field kindWord keyShown editionShown eventLines eventsShown restShown refusalShown outcomeShown sectionShown lastLine recordLines stopLines linesFrom listing orRefuse
+p13 = (refl, (refl, (rw (sealed-sound (eit11 0 0)), (refl, (rw (sealed-sound (eit11 0 0)), refl)))))
 
-pub shown : All marked
+pub shown : AllHold marked
 shown = (p1, (p2, (p3, (p4, (p5, (p6, (p7, (p8, (p9, (p10, (p11, (p12, (p13, record {})))))))))))))

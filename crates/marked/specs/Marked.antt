@@ -2,24 +2,30 @@
 use Prim.Native.Nat.{ℕ}
 use mathlib.Core.Path.{_≡_}
 use mathlib.Core.List.{List, [], _∷_}
-use lib.ListN.{length}
+use lib.ListN.{length, replicate}
 use Rattle.checksum.specs.Register.{sealed}
-use Rattle.refusal.specs.Outcomes.{refused, result}
+use Rattle.refusal.specs.Outcomes.{Outcome, refused, result}
 use Rattle.kind.specs.declared.Kind.{Kind}
 use Rattle.kind.specs.declared.Kind.the-variants.{Mgt, Tvct, Rrt, Eit, Ett}
 use Rattle.kind.specs.Kinds.{kindOf}
 use Rattle.section.specs.Sections.{sectionBy}
 use Rattle.eit.specs.declared.event.Title.{Title}
-use Rattle.eit.specs.declared.event.Title.the-variants.{None, NoStrings}
-use Rattle.reading.specs.Eits.{entryOf}
+use Rattle.eit.specs.declared.event.Title.the-variants.{None, NoStrings, Text}
+use Rattle.reading.specs.Eits.{fieldsOf, entryOf}
 use Rattle.text.specs.Texts.{fieldUnits}
+use Rattle.section_text.specs.declared.field.Which.the-variants as texts
+use Rattle.section_text.specs.Texts.{textUnits}
 use Rattle.shelf_state.specs.declared.records.Asked.{Asked}
 use Rattle.shelf_state.specs.declared.records.Shelf.{Shelf}
 use Rattle.shelf.specs.Answers.{After}
-use Rattle.shelf.specs.Calls.{made, opened, closed}
-use Rattle.shelf.specs.Delivery.{delivered}
+use Rattle.shelf.specs.Calls.{made, opened, closed, fetched}
+use Rattle.shelf.specs.Delivery.{areaAfter, delivered, delivering}
+use Rattle.shelf.specs.Steps.{fetchedBytes}
+use Rattle.shown.specs.Ascii.{ascii}
+use Rattle.listing.specs.Listing.{ended, listing}
 use Rattle.marked.specs.Sections.{eit11, eit10, eit4093, eit4094, tvct1021, tvct1022, mgt14, mgt13, rrt18, rrt17, ett15, ett14, teaText, teaEvent, teaSection, noTitle, zeroTitle, utf16}
 
+-- ---- the words of the examples
 -- a section, sealed, is sound, and its header's fields are these
 abbrev pub Passes : Kind → ℕ → ℕ → List ℕ → Type 0
 Passes k number last s =
@@ -60,6 +66,20 @@ twoAndTwo = opens (opens fourPlaces 1 2 .shelf) 2 2 .shelf
 abbrev pub quotaOne : Shelf
 quotaOne = opened (made 1 1 .shelf) 4096 (eitKey 0x1D00 7) 1 .shelf
 
+abbrev pub onePlace : List ℕ
+onePlace = replicate 4096 0
+
+-- what is fetched as section 0 after a delivery to that shelf
+abbrev pub keptOf : List ℕ → Outcome (List ℕ)
+keptOf s =
+    fetchedBytes (areaAfter onePlace s (delivering quotaOne 4096 0x1D00 s .outcome))
+    (fetched (delivered quotaOne 4096 0x1D00 s .shelf) 4096 (eitKey 0x1D00 7) 0 .outcome)
+
+-- what the lister prints of one record with a PID in two bytes
+abbrev pub listed : ℕ → ℕ → List ℕ → List ℕ
+listed high low s = listing (0xA5 ∷ 0x5A ∷ high ∷ low ∷ s) ended
+
+-- ---- the examples
 pub data Mark : Type 0 where
   P1 : Mark
   P2 : Mark
@@ -77,7 +97,11 @@ pub data Mark : Type 0 where
 
 -- what each example says
 abbrev pub Says : Mark → Type 0
-Says P1 = Passes Eit 0 0 (eit11 0 0) × RefusedBy 4 eit10
+Says P1 =
+    Passes Eit 0 0 (eit11 0 0)
+    × ((length (sealed (eit11 0 0)) ≡ 14)
+    × ((fieldsOf (sealed (eit11 0 0)) ≡ result (record { source = 7; count = 0 }))
+    × RefusedBy 4 eit10))
 Says P2 = Passes Eit 0 0 eit4093 × RefusedBy 4 eit4094
 Says P3 = Passes Tvct 0 0 tvct1021 × RefusedBy 4 tvct1022
 Says P4 = Passes Mgt 0 0 mgt14 × RefusedBy 4 mgt13
@@ -85,10 +109,18 @@ Says P5 = Passes Rrt 0 0 rrt18 × RefusedBy 4 rrt17
 Says P6 = Passes Ett 0 0 ett15 × RefusedBy 4 ett14
 Says P7 = Passes Eit 3 3 (eit11 3 3) × RefusedBy 8 (eit11 4 3)
 Says P8 = Titled None 22 noTitle × Titled NoStrings 23 zeroTitle
-Says P9 = (length teaText ≡ 11) × ((length teaEvent ≡ 23) × ((length (sealed teaSection) ≡ 37) × Passes Eit 0 0 teaSection))
+Says P9 =
+    (length teaText ≡ 11)
+    × ((length teaEvent ≡ 23)
+    × ((length (sealed teaSection) ≡ 37)
+    × (Passes Eit 0 0 teaSection
+    × (Titled (Text (record { start = 20; length = 11 })) 33 teaSection
+    × (textUnits (sealed teaSection) (texts.Title 0) 0 ≡ result (ascii "Tea"))))))
 Says P10 =
     (delivered quotaOne 4096 0x1D00 (sealed (eit11 0 0)) .outcome ≡ result tt)
-    × (delivered quotaOne 4096 0x1D00 (sealed (eit11 0 1)) .outcome ≡ refused 18)
+    × ((keptOf (sealed (eit11 0 0)) ≡ result (sealed (eit11 0 0)))
+    × ((delivered quotaOne 4096 0x1D00 (sealed (eit11 0 1)) .outcome ≡ refused 18)
+    × (keptOf (sealed (eit11 0 1)) ≡ refused 22)))
 Says P11 =
     (opens twoAndTwo 3 1 .outcome ≡ refused 21)
     × (opens (closed twoAndTwo 16384 (eitKey 0x1D00 1) .shelf) 3 2 .outcome ≡ result tt)
@@ -97,13 +129,16 @@ Says P13 =
     (opened fourPlaces 16384 (eitKey 8191 7) 1 .outcome ≡ result tt)
     × ((opened fourPlaces 16384 (eitKey 8192 7) 1 .outcome ≡ refused 15)
     × ((delivered fourPlaces 16384 8191 (sealed (eit11 0 0)) .outcome ≡ refused 17)
-    × (delivered fourPlaces 16384 8192 (sealed (eit11 0 0)) .outcome ≡ refused 15)))
+    × ((delivered fourPlaces 16384 8192 (sealed (eit11 0 0)) .outcome ≡ refused 15)
+    × ((listed 0x1F 0xFF (sealed (eit11 0 0)) ≡ ascii "guide lister\n0 pid 8191 eit 7 v3 0/0 events 0\nend 1\n")
+    × (listed 0x20 0x00 (sealed (eit11 0 0)) ≡ ascii "guide lister\n0 refused 15\nend 1\n")))))
 
+-- ---- the one statement
 -- the list
 abbrev pub marked : List Mark
 marked = P1 ∷ P2 ∷ P3 ∷ P4 ∷ P5 ∷ P6 ∷ P7 ∷ P8 ∷ P9 ∷ P10 ∷ P11 ∷ P12 ∷ P13 ∷ []
 
 -- each of a list holds
-abbrev pub All : List Mark → Type 0
-All [] = record {}
-All (m ∷ ms) = Says m × All ms
+abbrev pub AllHold : List Mark → Type 0
+AllHold [] = record {}
+AllHold (m ∷ ms) = Says m × AllHold ms

@@ -39,7 +39,7 @@ definedFormat =
     (λ x. record { head = headIn (x .0); r = x .1 .0 .0; descs = x .1 .1 })
     (λ x. refl) (λ y. refl)
 
--- a table that an MGT defines
+-- a table that an MGT defines: the same, shut; what follows with it is what the code is held to (law `same-walk`)
 unfoldable pub defined : Format One
 defined = definedFormat
 
@@ -60,5 +60,6 @@ mgtFormat =
     (λ x. record { tables = x .0 .1; r = x .1 .0 .0; descs = x .1 .1 })
     (λ x. refl) (λ y. refl)
 
+-- the same walk, shut, which the code is held to (law `same-walk`)
 unfoldable pub mgt : Filling One
 mgt = exact (seq tables (list12 noTag))

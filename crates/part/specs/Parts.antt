@@ -1,4 +1,4 @@
--- What is said of a part of lent bytes.
+-- SCOPE 5.8, and every answer that says where bytes stand: a part of lent bytes, its end and its bytes.
 use Prim.Native.Nat.{ℕ, _+_}
 use mathlib.Core.List.{List}
 use lib.ListN.{take, drop}

@@ -19,7 +19,7 @@ use Rattle.rating.specs.declared.SoughtDescriptor.{SoughtDescriptor}
 use Rattle.rating.specs.declared.SoughtDescriptor.the-variants as found
 use Rattle.rating.specs.declared.SoughtText.{SoughtText}
 use Rattle.rating.specs.declared.SoughtText.the-variants as part
-use Rattle.rating.specs.Ratings.{Rated, noAdvisory, regionAbsent, dimensionAbsent, value, ratedOf, Descriptor, soughtDescriptor, Place, soughtText, descriptorSize, regionSize, first, advisoryIn, regionIn, ratedByRegion, ratingIn, textAt, textIn}
+use Rattle.rating.specs.Ratings.{Rated, noAdvisory, regionAbsent, dimensionAbsent, value, ratedOf, Descriptor, soughtDescriptor, TextPart, soughtText, descriptorSize, regionSize, firstMatch, advisoryIn, regionIn, ratedByRegion, ratingIn, regionTextAt, textIn}
 use Rattle.rating.proofs.FirstLaws.{first-past}
 
 -- ---- an answer's meaning is that of one answer only
@@ -52,7 +52,7 @@ found-back found.Nothing = refl
 pub found-once : (a b : SoughtDescriptor) → soughtDescriptor a ≡ soughtDescriptor b → a ≡ b
 found-once = once-by soughtDescriptor descriptorOf found-back
 
-abbrev placeOf : Option Place → SoughtText
+abbrev placeOf : Option TextPart → SoughtText
 placeOf (some p) = part.Is (p .start) (p .size)
 placeOf none = part.Nothing
 
@@ -73,8 +73,8 @@ either P false a b p q = q
 module _ {A : Type 0} (P : A → Type 0) (s : List ℕ) (size : ℕ → ℕ) (end x : ℕ) (told : ℕ → A) (absent : A) (Left : ℕ → ℕ → Type 0)
     (goes-on : (n at : ℕ) → at + size at ≤ end → Left (suc n) at → Left n (at + size at)) (of-absent : P absent)
     (of-told : (n at : ℕ) → at + size at ≤ end → Left (suc n) at → byteAt s at ≡ x → P (told at)) where
-  pub first-left : (n at : ℕ) → Left n at → P (first s size n end at x told absent)
-  unfolding first ifEq
+  pub first-left : (n at : ℕ) → Left n at → P (firstMatch s size n end at x told absent)
+  unfolding firstMatch ifEq
   first-left zero at g = of-absent
   first-left (suc n) at g = ⊎-elim
       (λ h. subst P (lt-no end (at + size at) _ _ (omega arith) refl)
@@ -85,7 +85,7 @@ module _ {A : Type 0} (P : A → Type 0) (s : List ℕ) (size : ℕ → ℕ) (en
 
 -- the same where nothing is known
 first-all : {A : Type 0} (P : A → Type 0) (s : List ℕ) (size : ℕ → ℕ) (end x : ℕ) (told : ℕ → A) (absent : A) → P absent
-    → ((at : ℕ) → at + size at ≤ end → byteAt s at ≡ x → P (told at)) → (n at : ℕ) → P (first s size n end at x told absent)
+    → ((at : ℕ) → at + size at ≤ end → byteAt s at ≡ x → P (told at)) → (n at : ℕ) → P (firstMatch s size n end at x told absent)
 first-all P s size end x told absent of-absent of-told n at =
     first-left P s size end x told absent (λ n at. record {}) (λ n at h g. record {}) of-absent (λ n at h g e. of-told at h e) n at (record {})
 
@@ -107,15 +107,15 @@ rating-below s region dimension end from v e =
     _ _)
 
 -- a text stands within the list
-abbrev Within : ℕ → Option Place → Type 0
+abbrev Within : ℕ → Option TextPart → Type 0
 Within end (some t) = t .start + t .size ≤ end
 Within end none = record {}
 
-within : (s : List ℕ) (end p : ℕ) → p + regionSize s p ≤ end → Within end (textAt s p)
+within : (s : List ℕ) (end p : ℕ) → p + regionSize s p ≤ end → Within end (regionTextAt s p)
 unfolding regionSize
 within s end p h = omega arith
 
-pub text-within : (s : List ℕ) (region end from : ℕ) (t : Place) → textIn s region end from ≡ some t → t .start + t .size ≤ end
+pub text-within : (s : List ℕ) (region end from : ℕ) (t : TextPart) → textIn s region end from ≡ some t → t .start + t .size ≤ end
 unfolding textIn
 text-within s region end from t e =
     subst (Within end) e
@@ -126,7 +126,7 @@ text-within s region end from t e =
 -- ---- a number that no byte has is absent
 module _ (s : List ℕ) (bytes : Bytes s) where
   first-wide : {A : Type 0} (size : ℕ → ℕ) (n end at x : ℕ) (told : ℕ → A) (absent : A) → 255 < x
-      → first s size n end at x told absent ≡ absent
+      → firstMatch s size n end at x told absent ≡ absent
   first-wide size n end at x told absent h =
       first-all (λ r. r ≡ absent) s size end x told absent refl (λ a l e. absurd (omega (arith, bytes a))) n at
 

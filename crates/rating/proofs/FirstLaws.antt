@@ -11,7 +11,7 @@ use lib.ListN.{length}
 use Rattle.bytes_at.specs.Fields.{byteAt}
 use Rattle.logic.proofs.ChoiceLaws.{lt-yes, lt-no, eq-yes, eq-no}
 use Rattle.bytes_at.proofs.FieldLaws.{past}
-use Rattle.rating.specs.Ratings.{descriptorSize, ratedSize, regionSize, first, descriptorAt, descriptorIn}
+use Rattle.rating.specs.Ratings.{descriptorSize, ratedSize, regionSize, firstMatch, descriptorAt, descriptorIn}
 
 -- a byte that is not 0 stands within the section
 pub stands : (s : List ℕ) (at b : ℕ) → b ≡ byteAt s at → 0 < b → at < length s
@@ -27,29 +27,29 @@ dimensions-fit s p d e = omega arith
 
 module _ {A : Type 0} (s : List ℕ) (size : ℕ → ℕ) (end at x : ℕ) (told : ℕ → A) (absent : A) where
   -- nothing is left
-  pub first-none : (n : ℕ) → n ≡ 0 → absent ≡ first s size n end at x told absent
-  unfolding first
+  pub first-none : (n : ℕ) → n ≡ 0 → absent ≡ firstMatch s size n end at x told absent
+  unfolding firstMatch
   first-none n e = rw e
 
   -- k is the size of what stands at the place, and b its first byte
   module _ (k : ℕ) (sized : k ≡ size at) where
     -- it does not fit
-    pub first-past : (n : ℕ) → end < at + k → absent ≡ first s size n end at x told absent
-    unfolding first
+    pub first-past : (n : ℕ) → end < at + k → absent ≡ firstMatch s size n end at x told absent
+    unfolding firstMatch
     first-past zero h = refl
     first-past (suc n) h = lt-yes _ _ _ _ (omega arith) refl
 
     module _ (b : ℕ) (begins : b ≡ byteAt s at) (fits : at + k ≤ end) where
       -- it is the one
-      pub first-here : (n : ℕ) → 0 < n → b ≡ x → told at ≡ first s size n end at x told absent
-      unfolding first
+      pub first-here : (n : ℕ) → 0 < n → b ≡ x → told at ≡ firstMatch s size n end at x told absent
+      unfolding firstMatch
       first-here zero h e = absurd (omega arith)
       first-here (suc n) h e = lt-no _ _ _ _ (omega arith) (eq-yes _ _ _ _ (sym begins ∙ e) refl)
 
       -- it is another
       pub first-next : (n : ℕ) → 0 < n → (b ≡ x → ⊥)
-          → first s size (n - 1) end (at + k) x told absent ≡ first s size n end at x told absent
-      unfolding first
+          → firstMatch s size (n - 1) end (at + k) x told absent ≡ firstMatch s size n end at x told absent
+      unfolding firstMatch
       first-next zero h e = absurd (omega arith)
       first-next (suc n) h e = lt-no _ _ _ _ (omega arith) (eq-no _ _ _ _ (λ f. e (begins ∙ f)) (rw (sub-one, sized)))
 

@@ -12,8 +12,8 @@ use Rattle.logic.specs.Choices.{pick, ifEq}
 use Rattle.logic.proofs.ChoiceLaws.{lt-no}
 use Rattle.format.specs.Lawful.{Lies, All, encs}
 use Rattle.format.specs.Laws.OfBytes.{lies-split}
-use Rattle.format.specs.Listed.{firstOf, sought}
-use Rattle.rating.specs.Ratings.{first}
+use Rattle.format.specs.Listed.{firstWith, sought}
+use Rattle.rating.specs.Ratings.{firstMatch}
 
 -- two choices by one test, whose sides are alike
 module _ {A B : Type 0} (R : A → B → Type 0) where
@@ -38,13 +38,13 @@ module _ {X : Type 0} (Ok : X → Type 0) (enc : X → List ℕ) (key : X → �
       (there : (a : ℕ) (x : X) → Ok x → Lies (enc x) s a
       → (size a ≡ length (enc x)) × ((byteAt s a ≡ key x) × (key x ≡ n → told a ≡ says a x))) where
     pub first-there : (m k at : ℕ) (xs : List X) → k ≡ length xs + m → All Ok xs → Lies (encs enc xs) s at → at + length (encs enc xs) ≤ end
-        → first s size m end (at + length (encs enc xs)) n told absent ≡ absent
-        → first s size k end at n told absent ≡ firstOf enc key n says absent at xs
-    unfolding first firstOf
+        → firstMatch s size m end (at + length (encs enc xs)) n told absent ≡ absent
+        → firstMatch s size k end at n told absent ≡ firstWith enc key n says absent at xs
+    unfolding firstMatch firstWith
     first-there m k at [] c g l h p =
         let d : k ≡ m = omega arith in
         let e : at ≡ at + 0 = omega arith in
-        (λ i. first s size (d i) end (e i) n told absent) ∙ p
+        (λ i. firstMatch s size (d i) end (e i) n told absent) ∙ p
     first-there m zero at (x ∷ xs) c g l h p = absurd (omega arith)
     first-there m (suc k) at (x ∷ xs) c g l h p =
         let j = length-append (enc x) (encs enc xs) in
@@ -52,7 +52,7 @@ module _ {X : Type 0} (Ok : X → Type 0) (enc : X → List ℕ) (key : X → �
         let t = there at x (g .0) (i .0) in
         let e : at + length (enc x) + length (encs enc xs) ≡ at + length (enc x ++ encs enc xs) = omega arith in
         let r =
-        first-there m k (at + length (enc x)) xs (omega arith) (g .1) (i .1) (omega arith) (ap (λ a. first s size m end a n told absent) e ∙ p) in
+        first-there m k (at + length (enc x)) xs (omega arith) (g .1) (i .1) (omega arith) (ap (λ a. firstMatch s size m end a n told absent) e ∙ p) in
         sym (lt-no end (at + size at) absent _ (omega arith) refl)
         ∙ rw (t .0, t .1 .0) (eq-alike _≡_ (key x) n _ _ _ _ (t .1 .1) r)
 
@@ -60,8 +60,8 @@ module _ {X : Type 0} (Ok : X → Type 0) (enc : X → List ℕ) (key : X → �
   module _ {A B : Type 0} (R : A → B → Type 0) (says : ℕ → X → A) (absent : A) (plain : X → B) (missing : B) (of-none : R absent missing)
       (of-one : (a : ℕ) (x : X) → Ok x → Lies (enc x) s a → R (says a x) (plain x)) where
     pub sought-there : (at : ℕ) (xs : List X) → All Ok xs → Lies (encs enc xs) s at
-        → R (firstOf enc key n says absent at xs) (sought key n plain missing xs)
-    unfolding firstOf sought
+        → R (firstWith enc key n says absent at xs) (sought key n plain missing xs)
+    unfolding firstWith sought
     sought-there at [] g l = of-none
     sought-there at (x ∷ xs) g l =
         let i = lies-split (enc x) (encs enc xs) s at l in
@@ -69,7 +69,7 @@ module _ {X : Type 0} (Ok : X → Type 0) (enc : X → List ℕ) (key : X → �
 
 -- what is said without a place is said wherever the values lie
 pub placeless : {X A : Type 0} (enc : X → List ℕ) (key : X → ℕ) (n : ℕ) (plain : X → A) (absent : A) (at : ℕ) (xs : List X)
-    → firstOf enc key n (λ a. plain) absent at xs ≡ sought key n plain absent xs
-unfolding firstOf sought
+    → firstWith enc key n (λ a. plain) absent at xs ≡ sought key n plain absent xs
+unfolding firstWith sought
 placeless enc key n plain absent at [] = refl
 placeless enc key n plain absent at (x ∷ xs) = ap (ifEq (key x) n (plain x)) (placeless enc key n plain absent (at + length (enc x)) xs)

@@ -16,7 +16,7 @@ use Rattle.format.proofs.FieldLaws.{fields-end}
 use Rattle.format.proofs.RepeatLaws.{run-fits}
 use Rattle.strings.specs.Strings.{text, sizedText}
 use Rattle.descriptor.specs.Descriptors.{dimension, rated, region, descriptor, descriptors, contentAdvisory}
-use Rattle.rating.specs.Ratings.{descriptorSize, ratedSize, regionSize, first, advisoryIn, regionIn, dimensionIn}
+use Rattle.rating.specs.Ratings.{descriptorSize, ratedSize, regionSize, firstMatch, advisoryIn, regionIn, dimensionIn}
 use Rattle.rating.proofs.FirstLaws.{dimensions-fit, first-none, first-past, first-here, first-next}
 use Rattle.rating.proofs.DescriptorLaws.{size-taken, two, counted}
 
@@ -63,19 +63,19 @@ module _ (p : ℕ → Walk) (size : ℕ → ℕ) (end : ℕ) (takes : (at e : �
     module _ {A : Type 0} (told : ℕ → A) (absent : A) where
       -- past one that is another
       first-rest : (n at b : ℕ) → 0 < n → p at ≡ To b → (byteAt s at ≡ x → ⊥)
-          → first s size n end at x told absent ≡ first s size (n - 1) end b x told absent
+          → firstMatch s size n end at x told absent ≡ firstMatch s size (n - 1) end b x told absent
       first-rest n at b h w other =
           let t = takes at b w in
           sym (first-next s size end at x told absent _ refl _ refl (omega arith) n h other)
-          ∙ ap (λ c. first s size (n - 1) end c x told absent) (sym (t .0))
+          ∙ ap (λ c. firstMatch s size (n - 1) end c x told absent) (sym (t .0))
 
       first-is : (n k at a e : ℕ) → many p n at ≡ To e → k < n → many p k at ≡ To a → byteAt s a ≡ x → None k at
-          → first s size n end at x told absent ≡ told a
+          → firstMatch s size n end at x told absent ≡ told a
       unfolding many
       first-is n zero at a e m h r b none-before =
           let w = passed p n 0 at a e h m r in
           let t = takes a (w .0) (w .1) in
-          ap (λ at. first s size n end at x told absent) (sym (to-is at a r))
+          ap (λ at. firstMatch s size n end at x told absent) (sym (to-is at a r))
           ∙ sym (first-here s size end a x told absent _ refl _ refl (omega arith) n h b)
       first-is zero (suc k) at a e m h r b none-before = absurd (omega arith)
       first-is (suc n) (suc k) at a e m h r b none-before =
@@ -87,7 +87,7 @@ module _ (p : ℕ → Walk) (size : ℕ → ℕ) (end : ℕ) (takes : (at e : �
           (first-is n k (q .0) a e (q .1 .1) (omega arith) (ap (many p k) (sym c) ∙ u .1 .1) b
           (none-next k at (q .0) (q .1 .0) none-before))
 
-      first-not : (n at e : ℕ) → many p n at ≡ To e → None n at → first s size n end at x told absent ≡ absent
+      first-not : (n at e : ℕ) → many p n at ≡ To e → None n at → firstMatch s size n end at x told absent ≡ absent
       unfolding many
       first-not zero at e m none-here = sym (first-none s size end at x told absent 0 refl)
       first-not (suc n) at e m none-here =
@@ -97,8 +97,8 @@ module _ (p : ℕ → Walk) (size : ℕ → ℕ) (end : ℕ) (takes : (at e : �
 
       -- where n come to the end, more are no more
       first-more : ((at : ℕ) → 0 < size at) → (n m at : ℕ) → many p n at ≡ To end → n ≤ m
-          → first s size m end at x told absent ≡ first s size n end at x told absent
-      unfolding many first
+          → firstMatch s size m end at x told absent ≡ firstMatch s size n end at x told absent
+      unfolding many firstMatch
       first-more some-size zero m at w h =
           let c = to-is at end w in
           let z = some-size at in
@@ -195,7 +195,7 @@ module _ (judged : ℕ) (s : List ℕ) (end from : ℕ) (accepted : walksAll (de
 
   -- as many steps as the list has descriptors are enough
   enough : (n : ℕ) → Descriptors n end → from + 2 * n ≤ end
-      → advisoryIn s end from told absent ≡ first s (descriptorSize s) n end from contentAdvisory told absent
+      → advisoryIn s end from told absent ≡ firstMatch s (descriptorSize s) n end from contentAdvisory told absent
   enough n m h =
       first-more _ (descriptorSize s) end (size-taken judged s end) s contentAdvisory told absent
       (λ a. omega (arith, two s a)) n end from m (omega arith)

@@ -7,7 +7,7 @@ use Rattle.rating.specs.declared.SoughtDescriptor.{SoughtDescriptor}
 use Rattle.rating.specs.declared.SoughtDescriptor.the-variants as found
 use Rattle.rating.specs.declared.SoughtText.{SoughtText}
 use Rattle.rating.specs.declared.SoughtText.the-variants as part
-use Rattle.rating.specs.Ratings.{Rated, noAdvisory, regionAbsent, dimensionAbsent, value, ratedOf, Descriptor, soughtDescriptor, Place, soughtText}
+use Rattle.rating.specs.Ratings.{Rated, noAdvisory, regionAbsent, dimensionAbsent, value, ratedOf, Descriptor, soughtDescriptor, TextPart, soughtText}
 
 pub ratingFor : Rated → Rating
 ratingFor noAdvisory = NoAdvisory
@@ -37,7 +37,7 @@ descriptor-back (found.Is t a n) = refl
 pub descriptor-once : (x y : SoughtDescriptor) → soughtDescriptor x ≡ soughtDescriptor y → x ≡ y
 descriptor-once x y e = sym (descriptor-back x) ∙ ap descriptor-told e ∙ descriptor-back y
 
-text-told : Option Place → SoughtText
+text-told : Option TextPart → SoughtText
 text-told none = part.Nothing
 text-told (some p) = part.Is (p .start) (p .size)
 

@@ -12,9 +12,9 @@ use Rattle.bytes_at.specs.Fields.{byteAt}
 use Rattle.format.specs.Lawful.{Lies, Bytes, encs}
 use Rattle.format.specs.Laws.OfBytes.{lies-split}
 use Rattle.format.specs.Laws.OfValues.{bytes-length}
-use Rattle.format.specs.Listed.{firstOf, nthOf}
+use Rattle.format.specs.Listed.{firstWith, nthOf}
 use Rattle.descriptor.specs.Descriptors.{dimension, region, advisory, content, tagged-full, descriptor, descriptors, descriptorsOf, regionBytes, contentBytes, descriptorBytes, contentAdvisory}
-use Rattle.rating.specs.Ratings.{regionAbsent, dimensionAbsent, noAdvisory, value, descriptorSize, ratedSize, regionSize, advisoryIn, regionIn, ratedByRegion, ratedByAdvisory, ratingIn, textAt, textIn, descriptorIn}
+use Rattle.rating.specs.Ratings.{regionAbsent, dimensionAbsent, noAdvisory, value, descriptorSize, ratedSize, regionSize, advisoryIn, regionIn, ratedByRegion, ratedByAdvisory, ratingIn, regionTextAt, textIn, descriptorIn}
 use Rattle.rating.specs.Values.{byRegion, byAdvisory, ratedBy, regionPlace, placeFrom, textPlace, descriptorFor}
 use Rattle.rating.proofs.FirstLaws.{dimensions-fit, first-none, first-past, none-past, descriptor-here, descriptor-next}
 use Rattle.rating.proofs.DescriptorLaws.{two}
@@ -36,7 +36,7 @@ module _ (s : List ℕ) (z : Bytes s) where
       (sym (first-none s (λ q. 2) _ _ y _ _ 0 refl))
       ∙ placeless (dimension .enc) (λ q. q .dimension) y (λ q. value (q .value)) dimensionAbsent (p + 2) (g .ratings)
 
-  region-place : (p : ℕ) (g : region .Val) → region .Ok (record {}) g → Lies (region .enc g) s p → unfold region in (textAt s p ≡ regionPlace p g)
+  region-place : (p : ℕ) (g : region .Val) → region .Ok (record {}) g → Lies (region .enc g) s p → unfold region in (regionTextAt s p ≡ regionPlace p g)
   unfolding region ratedSize regionPlace
   region-place p g o l =
       let n = region-values s z p g o l .0 .1 in
@@ -49,7 +49,7 @@ module _ (s : List ℕ) (z : Bytes s) where
       (there : (p : ℕ) (g : region .Val) → region .Ok (record {}) g → Lies (region .enc g) s p → told p ≡ says p g) where
     regions-there : (a : ℕ) (v : advisory .Val) → advisory .Ok (record {}) v → Lies (advisory .enc v) s (a + 2)
         → byteAt s (a + 1) ≡ length (advisory .enc v)
-        → unfold advisory region in (regionIn s x a told absent ≡ firstOf regionBytes (λ g. g .region) x says absent (a + 3) (v .regions))
+        → unfold advisory region in (regionIn s x a told absent ≡ firstWith regionBytes (λ g. g .region) x says absent (a + 3) (v .regions))
     unfolding advisory region regionBytes descriptorSize
     regions-there a v o l c =
         let t = advisory-values s z a v o l in
@@ -67,9 +67,9 @@ module _ (s : List ℕ) (z : Bytes s) where
       ∙ placeless regionBytes (λ g. g .region) x (byRegion y) regionAbsent (a + 3) (v .regions)
 
   advisory-place : (x a : ℕ) (v : advisory .Val) → advisory .Ok (record {}) v → Lies (advisory .enc v) s (a + 2)
-      → byteAt s (a + 1) ≡ length (advisory .enc v) → unfold advisory in (regionIn s x a (textAt s) none ≡ placeFrom x a (inl v))
+      → byteAt s (a + 1) ≡ length (advisory .enc v) → unfold advisory in (regionIn s x a (regionTextAt s) none ≡ placeFrom x a (inl v))
   unfolding advisory region placeFrom
-  advisory-place x = regions-there x (textAt s) regionPlace none region-place
+  advisory-place x = regions-there x (regionTextAt s) regionPlace none region-place
 
   -- ---- the list: what is told of the place of a content advisory is what is said of the advisory
   module _ {A : Type 0} (told : ℕ → A) (says : ℕ → advisory .Val ⊎ List ℕ → A) (absent : A)
@@ -84,7 +84,7 @@ module _ (s : List ℕ) (z : Bytes s) where
 
     list-there : (end from : ℕ) (ds : descriptors contentAdvisory .Val) → descriptors contentAdvisory .Ok (record {}) ds
         → Lies (descriptors contentAdvisory .enc ds) s from → end ≡ from + length (descriptors contentAdvisory .enc ds)
-        → unfold advisory in (advisoryIn s end from told absent ≡ firstOf (descriptorBytes contentAdvisory) (λ d. d .tag) contentAdvisory
+        → unfold advisory in (advisoryIn s end from told absent ≡ firstWith (descriptorBytes contentAdvisory) (λ d. d .tag) contentAdvisory
         (λ a d. says a (d .content)) absent from (descriptorsOf contentAdvisory ds))
     unfolding descriptors descriptor content advisory descriptorsOf descriptorBytes
     list-there end from ds o l e =
@@ -110,7 +110,7 @@ module _ (s : List ℕ) (z : Bytes s) where
 
     pub text-there : (x : ℕ) → textIn s x end from ≡ textPlace x from (descriptorsOf contentAdvisory ds)
     unfolding textIn textPlace advisory
-    text-there x = list-there (λ a. regionIn s x a (textAt s) none) (placeFrom x) none (advisory-place x) end from ds o l e
+    text-there x = list-there (λ a. regionIn s x a (regionTextAt s) none) (placeFrom x) none (advisory-place x) end from ds o l e
 
   -- ---- descriptor k
   pub descriptor-there : (judged end from : ℕ) (ds : descriptors judged .Val) → descriptors judged .Ok (record {}) ds

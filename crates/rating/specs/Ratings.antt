@@ -13,6 +13,7 @@ use Rattle.rating.specs.declared.SoughtDescriptor.the-variants as found
 use Rattle.rating.specs.declared.SoughtText.{SoughtText}
 use Rattle.rating.specs.declared.SoughtText.the-variants as part
 
+-- ---- the answers
 -- a rating question answers: no advisory, region absent, dimension absent, or a value
 pub data Rated : Type 0 where
   noAdvisory : Rated
@@ -37,14 +38,15 @@ soughtDescriptor (found.Is t a n) = some (record { tag = t; start = a; size = n 
 soughtDescriptor found.Nothing = none
 
 -- where a text stands
-pub record Place : Type 0 where
+pub record TextPart : Type 0 where
   pub start : ℕ
   pub size : ℕ
 
-abbrev pub soughtText : SoughtText → Option Place
+abbrev pub soughtText : SoughtText → Option TextPart
 soughtText (part.Is a n) = some (record { start = a; size = n })
 soughtText part.Nothing = none
 
+-- ---- how many bytes a thing takes
 -- a descriptor: tag 8, length 8, that many bytes
 unfoldable pub descriptorSize : List ℕ → ℕ → ℕ
 descriptorSize s at = 2 + byteAt s (at + 1)
@@ -57,26 +59,28 @@ ratedSize s at = 2 + 2 * byteAt s (at + 1)
 unfoldable pub regionSize : List ℕ → ℕ → ℕ
 regionSize s at = ratedSize s at + 1 + byteAt s (at + ratedSize s at)
 
+-- ---- the first match
 -- The first match in byte order decides: n things stand one after the other from `at`, each of its size and within `end`. The
 -- first of them whose first byte is x is told by its place; where none is, the answer is `absent`.
-unfoldable pub first : {A : Type 0} → List ℕ → (ℕ → ℕ) → ℕ → ℕ → ℕ → ℕ → (ℕ → A) → A → A
-first s size zero end at x told absent = absent
-first s size (suc n) end at x told absent =
+unfoldable pub firstMatch : {A : Type 0} → List ℕ → (size : ℕ → ℕ) → (n end at x : ℕ) → (told : ℕ → A) → (absent : A) → A
+firstMatch s size zero end at x told absent = absent
+firstMatch s size (suc n) end at x told absent =
     ifLt end (at + size at) absent
-    (ifEq (byteAt s at) x (told at) (first s size n end (at + size at) x told absent))
+    (ifEq (byteAt s at) x (told at) (firstMatch s size n end (at + size at) x told absent))
 
 -- the first 0x87 descriptor; `end` bounds their number, since each takes two bytes or more
 abbrev pub advisoryIn : {A : Type 0} → List ℕ → ℕ → ℕ → (ℕ → A) → A → A
-advisoryIn s end from = first s (descriptorSize s) end end from contentAdvisory
+advisoryIn s end from = firstMatch s (descriptorSize s) end end from contentAdvisory
 
 -- the first such region of the content advisory at a: r 2, region count 6, and the regions
 abbrev pub regionIn : {A : Type 0} → List ℕ → ℕ → ℕ → (ℕ → A) → A → A
-regionIn s region a = first s (regionSize s) (byteAt s (a + 2) % 64) (a + descriptorSize s a) (a + 3) region
+regionIn s region a = firstMatch s (regionSize s) (byteAt s (a + 2) % 64) (a + descriptorSize s a) (a + 3) region
 
 -- the first such dimension of the region at p: dimension 8, r 4, value 4
 abbrev pub dimensionIn : {A : Type 0} → List ℕ → ℕ → ℕ → (ℕ → A) → A → A
-dimensionIn s dimension p = first s (λ q. 2) (byteAt s (p + 1)) (p + regionSize s p) (p + 2) dimension
+dimensionIn s dimension p = firstMatch s (λ q. 2) (byteAt s (p + 1)) (p + regionSize s p) (p + 2) dimension
 
+-- ---- the questions
 -- what a region at p, and what an advisory at a, answer to a rating question
 abbrev pub ratedByRegion : List ℕ → ℕ → ℕ → Rated
 ratedByRegion s dimension p = dimensionIn s dimension p (λ q. value (byteAt s (q + 1) % 16)) dimensionAbsent
@@ -89,12 +93,12 @@ unfoldable pub ratingIn : List ℕ → ℕ → ℕ → ℕ → ℕ → Rated
 ratingIn s region dimension end from = advisoryIn s end from (ratedByAdvisory s region dimension) noAdvisory
 
 -- the text of the region at p
-abbrev pub textAt : List ℕ → ℕ → Option Place
-textAt s p = some (record { start = p + ratedSize s p + 1; size = byteAt s (p + ratedSize s p) })
+abbrev pub regionTextAt : List ℕ → ℕ → Option TextPart
+regionTextAt s p = some (record { start = p + ratedSize s p + 1; size = byteAt s (p + ratedSize s p) })
 
 -- the text of the first such region in the first content advisory
-unfoldable pub textIn : List ℕ → ℕ → ℕ → ℕ → Option Place
-textIn s region end from = advisoryIn s end from (λ a. regionIn s region a (textAt s) none) none
+unfoldable pub textIn : List ℕ → ℕ → ℕ → ℕ → Option TextPart
+textIn s region end from = advisoryIn s end from (λ a. regionIn s region a (regionTextAt s) none) none
 
 -- the descriptor at a place
 abbrev pub descriptorAt : List ℕ → ℕ → Descriptor

@@ -5,10 +5,10 @@ use mathlib.Core.Logic.{_⊎_, inl, inr}
 use mathlib.Core.List.{List}
 use mathlib.Core.Option.{Option, none, some}
 use lib.ListN.{length}
-use Rattle.format.specs.Listed.{nthOf, firstOf, sought}
+use Rattle.format.specs.Listed.{nthOf, firstWith, sought}
 use Rattle.strings.specs.Strings.{text}
 use Rattle.descriptor.specs.Descriptors.{RegionFields, AdvisoryFields, DescriptorFields, regionBytes, contentBytes, descriptorBytes, contentAdvisory}
-use Rattle.rating.specs.Ratings.{Rated, noAdvisory, regionAbsent, dimensionAbsent, value, Descriptor, Place}
+use Rattle.rating.specs.Ratings.{Rated, noAdvisory, regionAbsent, dimensionAbsent, value, Descriptor, TextPart}
 
 -- a region answers by its first such dimension
 unfoldable pub byRegion : ℕ → RegionFields → Rated
@@ -32,18 +32,18 @@ unfoldable pub textBy : ℕ → List DescriptorFields → Option (text .Val)
 textBy region ds = sought (λ d. d .tag) contentAdvisory (λ d. textFrom region (d .content)) none ds
 
 -- where the text of a region at p stands: behind region and count, its ratings of two bytes each, and the text's length
-unfoldable pub regionPlace : ℕ → RegionFields → Option Place
+unfoldable pub regionPlace : ℕ → RegionFields → Option TextPart
 regionPlace p g = some (record { start = p + 2 + 2 * length (g .ratings) + 1; size = length (text .enc (g .text)) })
 
 -- where that text stands in an advisory whose descriptor is at a, the regions being behind tag, length and their count; and in a list
 -- that begins at `from`
-unfoldable pub placeFrom : ℕ → ℕ → AdvisoryFields ⊎ List ℕ → Option Place
-placeFrom region a (inl v) = firstOf regionBytes (λ g. g .region) region regionPlace none (a + 3) (v .regions)
+unfoldable pub placeFrom : ℕ → ℕ → AdvisoryFields ⊎ List ℕ → Option TextPart
+placeFrom region a (inl v) = firstWith regionBytes (λ g. g .region) region regionPlace none (a + 3) (v .regions)
 placeFrom region a (inr bytes) = none
 
-unfoldable pub textPlace : ℕ → ℕ → List DescriptorFields → Option Place
+unfoldable pub textPlace : ℕ → ℕ → List DescriptorFields → Option TextPart
 textPlace region from ds =
-    firstOf (descriptorBytes contentAdvisory) (λ d. d .tag) contentAdvisory (λ a d. placeFrom region a (d .content)) none from ds
+    firstWith (descriptorBytes contentAdvisory) (λ d. d .tag) contentAdvisory (λ a d. placeFrom region a (d .content)) none from ds
 
 -- descriptor k of a list that begins at `from`: its tag, and where its content stands, behind tag and length
 unfoldable pub descriptorFor : ℕ → ℕ → ℕ → List DescriptorFields → Option Descriptor

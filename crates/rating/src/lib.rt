@@ -7,7 +7,7 @@ ghost use mathlib.Core.Path.{_≡_};
 ghost use mathlib.Core.Option.{none};
 ghost use Prim.Native.Nat.{_+_, _-_, _<_, _≤_};
 ghost use Rattle.bytes_at.specs.Fields.{byteAt};
-ghost use Rattle.rating.specs.Ratings.{descriptorSize, ratedSize, regionSize, first, ratedOf, ratingIn, soughtDescriptor, descriptorIn, soughtText, textAt, textIn};
+ghost use Rattle.rating.specs.Ratings.{descriptorSize, ratedSize, regionSize, firstMatch, ratedOf, ratingIn, soughtDescriptor, descriptorIn, soughtText, regionTextAt, textIn};
 
 // What a rating question answers. Absent is not 0.
 pub enum Rating {
@@ -137,7 +137,7 @@ pub fn descriptor_in(s: &[u8], end: usize, from: usize, k: usize) -> SoughtDescr
 
 // The text of the first such region of n from a place, which are to end at `close`.
 fn text_of_first(s: &[u8], region: usize, n: usize, close: usize, from: usize) -> SoughtText
-    ensures { λ r. ⌜ soughtText r ≡ first (now (s .entry)) (regionSize (now (s .entry))) n close from region (textAt (now (s .entry))) none ⌝ }
+    ensures { λ r. ⌜ soughtText r ≡ firstMatch (now (s .entry)) (regionSize (now (s .entry))) n close from region (regionTextAt (now (s .entry))) none ⌝ }
 {
     let mut at = from;
     let mut left = n;

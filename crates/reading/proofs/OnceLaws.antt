@@ -3,7 +3,7 @@ use mathlib.Core.Path.{_≡_, refl, ap}
 use Rattle.refusal.specs.Outcomes.{Outcome, refused, result}
 use Rattle.refusal.proofs.NumberLaws.{numbered, numbered-back}
 use Rattle.refusal.proofs.OutcomeLaws.{once-by}
-use Rattle.rating.specs.Ratings.{Rated, Descriptor, Place}
+use Rattle.rating.specs.Ratings.{Rated, Descriptor, TextPart}
 use Rattle.rating.proofs.OnceLaws.{ratingFor, rating-back as rated-back}
 use Rattle.mgt.specs.declared.table.Table.{Table as Mgt}
 use Rattle.mgt.specs.declared.defined.Defined.{Defined}
@@ -179,7 +179,7 @@ descriptor-back (descriptor-answers.Is t p) = refl
 pub descriptor-once : (x y : DescriptorAnswer) → eits.descriptorOutcome x ≡ eits.descriptorOutcome y → x ≡ y
 descriptor-once = once-by eits.descriptorOutcome descriptor-told descriptor-back
 
-text-told : Outcome Place → TextAnswer
+text-told : Outcome TextPart → TextAnswer
 text-told (refused n) = text-answers.Refused (numbered n)
 text-told (result x) = text-answers.Is (record { start = x .start; length = x .size })
 

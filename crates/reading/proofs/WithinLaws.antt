@@ -13,12 +13,12 @@ use Rattle.kind.specs.Kinds.{limitsOf, onlyOf}
 use Rattle.format.specs.Formats.{walks}
 use Rattle.part.specs.declared.Part.{Part}
 use Rattle.part.specs.Parts.{endOf, bytesIn}
-use Rattle.rating.specs.Ratings.{Descriptor, Place}
+use Rattle.rating.specs.Ratings.{Descriptor, TextPart}
 use Rattle.rating.proofs.DescriptorLaws.{descriptor-within}
 use Rattle.rating.proofs.AnswerLaws.{text-within}
 use Rattle.eit.specs.Format.{event}
 use Rattle.eit.specs.Fields.{titlePart, descriptorsAt}
-use Rattle.eit.specs.Questions.{descriptorAt, advisoryTextAt}
+use Rattle.eit.specs.Questions.{eventDescriptor, advisoryTextAt}
 use Rattle.eit.proofs.EventLaws.{title-sound, descriptors-sound}
 use Rattle.ett.specs.Fields.{fieldsAt}
 use Rattle.ett.proofs.TextLaws.{body-text}
@@ -49,13 +49,13 @@ module _ (s : List ℕ) (i a : ℕ) (found : spotOf Event s i ≡ result a) wher
       all-there s (descriptorsAt s a .start) (descriptorsAt s a .length)
       (omega (arith, descriptors-sound s (length s - 4) a (stood .0) (stood .1) .0))
 
-  pub content-whole : (k : ℕ) (d : Descriptor) → descriptorAt s a k ≡ some d → length (take (d .size) (drop (d .start) s)) ≡ d .size
-  unfolding descriptorAt
+  pub content-whole : (k : ℕ) (d : Descriptor) → eventDescriptor s a k ≡ some d → length (take (d .size) (drop (d .start) s)) ≡ d .size
+  unfolding eventDescriptor
   content-whole k d f =
       let l = descriptors-sound s (length s - 4) a (stood .0) (stood .1) .0 in
       all-there s (d .start) (d .size) (omega (arith, l, descriptor-within s (endOf (descriptorsAt s a)) k (descriptorsAt s a .start) d f))
 
-  pub advisory-whole : (region : ℕ) (t : Place) → advisoryTextAt s a region ≡ some t → length (take (t .size) (drop (t .start) s)) ≡ t .size
+  pub advisory-whole : (region : ℕ) (t : TextPart) → advisoryTextAt s a region ≡ some t → length (take (t .size) (drop (t .start) s)) ≡ t .size
   unfolding advisoryTextAt
   advisory-whole region t f =
       let l = descriptors-sound s (length s - 4) a (stood .0) (stood .1) .0 in

@@ -4,20 +4,19 @@ use mathlib.Core.Bool.{Bool}
 use mathlib.Core.Option.{Option, none, some}
 use mathlib.Core.List.{List}
 use lib.ListN.{length}
-use Rattle.logic.specs.Choices.{pick}
 use Rattle.refusal.specs.Numbers.{numberOf}
-use Rattle.refusal.specs.Outcomes.{Outcome, refused, result, after}
+use Rattle.refusal.specs.Outcomes.{Outcome, refused, result, after, orRefuse}
 use Rattle.kind.specs.Kinds.{limitsOf, onlyOf}
 use Rattle.section.specs.Sections.{sectionBy}
 use Rattle.kind.specs.declared.Kind.the-variants.{Eit}
 use Rattle.format.specs.Formats.{walksAll}
 use Rattle.descriptor.specs.Descriptors.{contentAdvisory, descriptors as descriptorList}
-use Rattle.rating.specs.Ratings.{Rated, ratedOf, ratingIn, Descriptor, descriptorIn, Place, textIn}
+use Rattle.rating.specs.Ratings.{Rated, ratedOf, ratingIn, Descriptor, descriptorIn, TextPart, textIn}
 use Rattle.eit.specs.declared.table.Table.{Table}
 use Rattle.eit.specs.declared.event.Event.{Event}
 use Rattle.eit.specs.Fields.{fieldsAt, eventAt}
 use Rattle.eit.specs.Given.{stands}
-use Rattle.eit.specs.Questions.{ratingAt, descriptorAt, advisoryTextAt}
+use Rattle.eit.specs.Questions.{ratingAt, eventDescriptor, advisoryTextAt}
 use Rattle.entry.specs.declared.Entry.the-variants as entries
 use Rattle.entry.specs.Entries.{spotOf}
 use Rattle.reading.specs.declared.eits.TableAnswer.{TableAnswer}
@@ -66,22 +65,22 @@ descriptorOutcome (descriptors.Refused k) = refused (numberOf k)
 descriptorOutcome (descriptors.Is t p) = result (record { tag = t; start = p .start; size = p .length })
 
 unfoldable pub descriptorOf : List ℕ → ℕ → ℕ → Outcome Descriptor
-descriptorOf s i k = after (spotOf entries.Event s i) (λ a. orNone (descriptorAt s a k))
+descriptorOf s i k = after (spotOf entries.Event s i) (λ a. orNone (eventDescriptor s a k))
 
 -- the text of the first such region in the first content advisory
-abbrev pub textOutcome : TextAnswer → Outcome Place
+abbrev pub textOutcome : TextAnswer → Outcome TextPart
 textOutcome (texts.Refused k) = refused (numberOf k)
 textOutcome (texts.Is p) = result (record { start = p .start; size = p .length })
 
-unfoldable pub advisoryTextOf : List ℕ → ℕ → ℕ → Outcome Place
+unfoldable pub advisoryTextOf : List ℕ → ℕ → ℕ → Outcome TextPart
 advisoryTextOf s i region = after (spotOf entries.Event s i) (λ a. orNone (advisoryTextAt s a region))
 
 -- ---- the same of an event's descriptor list by itself: 9 where it is not filled exactly, so that a broken list is never "absent"
-abbrev pub filled : List ℕ → Bool
-filled l = stands (walksAll (descriptorList contentAdvisory) l (length l) 0)
+abbrev pub isFilled : List ℕ → Bool
+isFilled l = stands (walksAll (descriptorList contentAdvisory) l (length l) 0)
 
 unfoldable pub ifFilled : {A : Type 0} → List ℕ → Outcome A → Outcome A
-ifFilled l o = pick (filled l) o (refused 9)
+ifFilled l o = orRefuse 9 (isFilled l) o
 
 abbrev pub listRating : List ℕ → ℕ → ℕ → Outcome Rated
 listRating l region dimension = ifFilled l (result (ratingIn l region dimension (length l) 0))
@@ -89,5 +88,5 @@ listRating l region dimension = ifFilled l (result (ratingIn l region dimension 
 abbrev pub listDescriptor : List ℕ → ℕ → Outcome Descriptor
 listDescriptor l k = ifFilled l (orNone (descriptorIn l (length l) k 0))
 
-abbrev pub listText : List ℕ → ℕ → Outcome Place
+abbrev pub listText : List ℕ → ℕ → Outcome TextPart
 listText l region = ifFilled l (orNone (textIn l region (length l) 0))

@@ -22,7 +22,7 @@ use section::inner::body_start;
 use section::judge_kind;
 ghost use mathlib.Core.Path.{_≡_};
 ghost use Rattle.rating.specs.Ratings.{soughtDescriptor, soughtText};
-ghost use Rattle.reading.specs.Eits.{fieldsOutcome, fieldsOf, entryOutcome, entryOf, ratingOutcome, ratingOf, orNone, descriptorOutcome, descriptorOf, textOutcome, advisoryTextOf, filled, listRating, listDescriptor, listText};
+ghost use Rattle.reading.specs.Eits.{fieldsOutcome, fieldsOf, entryOutcome, entryOf, ratingOutcome, ratingOf, orNone, descriptorOutcome, descriptorOf, textOutcome, advisoryTextOf, isFilled, listRating, listDescriptor, listText};
 pub use eit::Event;
 pub use eit::Table;
 pub use eit::Title;
@@ -139,7 +139,7 @@ pub fn advisory_text(s: &[u8], i: usize, region: usize) -> TextAnswer
 
 // Whether a list by itself is filled exactly, its advisories too.
 fn is_filled(list: &[u8]) -> bool
-    ensures { λ r. ⌜ r ≡ filled (now (list .entry)) ⌝ }
+    ensures { λ r. ⌜ r ≡ isFilled (now (list .entry)) ⌝ }
 {
     match whole_descriptors(list, CONTENT_ADVISORY, list.len(), 0) {
         Walk::To(_e) => true,

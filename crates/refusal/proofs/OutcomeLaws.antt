@@ -1,8 +1,9 @@
 -- Outcomes: what is told of them, one after another; and answers by what they mean.
 use Prim.Native.Nat.{ℕ}
 use mathlib.Core.Path.{_≡_, refl, sym, ap, _∙_}
+use mathlib.Core.Bool.{Bool, true, false}
 use native.Mathlib.Omega.{arith}
-use Rattle.refusal.specs.Outcomes.{Outcome, refused, result, after}
+use Rattle.refusal.specs.Outcomes.{Outcome, refused, result, after, orRefuse}
 
 pub same-result : {A : Type 0} (a b : A) → _≡_ {A = Outcome A} (result a) (result b) → a ≡ b
 same-result a b e = cc
@@ -10,6 +11,12 @@ same-result a b e = cc
 -- a refusal is no result
 pub not-both : {A B : Type 0} (n : ℕ) (a : A) → _≡_ {A = Outcome A} (refused n) (result a) → B
 not-both n a e = let z : _≡_ {A = ℕ} 0 1 = cc in absurd (omega arith)
+
+-- what a test lets through has passed it
+pub went-on : {A : Type 0} (n : ℕ) (b : Bool) (o : Outcome A) (a : A) → orRefuse n b o ≡ result a → (b ≡ true) × (o ≡ result a)
+unfolding orRefuse
+went-on n true o a e = (refl, e)
+went-on n false o a e = not-both n a e
 
 -- ---- one after another
 module _ {A B : Type 0} (x : Outcome A) (k : A → Outcome B) where

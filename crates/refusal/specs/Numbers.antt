@@ -24,7 +24,7 @@ numberOf SectionNumber = 8
 numberOf Body = 9
 -- compression and mode are not a pair that is read
 numberOf NotAReadPair = 10
--- broken text
+-- broken text: an odd number of UTF-16 bytes, a raw character above 127, bits that end early, 8 or more bits after the end
 numberOf BrokenText = 11
 -- the output is too short
 numberOf OutputShort = 12

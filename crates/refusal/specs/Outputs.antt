@@ -4,6 +4,16 @@ use mathlib.Core.List.{List, _++_}
 use lib.ListN.{length, drop}
 use Rattle.refusal.specs.Outcomes.{Outcome, refused, result, after}
 
+-- the number that a call answers where its result stands in lent memory: the refusal's, or 0 where it is done
+abbrev pub numberIn : {A : Type 0} → Outcome A → ℕ
+numberIn (refused k) = k
+numberIn (result a) = 0
+
+-- what stands there where there is no value: a blank is not a nought. A field that always has a value may be this number too: it means no value only
+-- where a code beside it says so
+abbrev pub noValue : ℕ
+noValue = 4294967295
+
 -- how many there are
 unfoldable pub counted : Outcome (List ℕ) → Outcome ℕ
 counted x = after x (λ us. result (length us))

@@ -1,4 +1,4 @@
--- The numbers of a row.
+-- The numbers of a row, in which a part is two: where it begins, and how long it is.
 use Prim.Native.Nat.{ℕ}
 use mathlib.Core.List.{List, [], _∷_}
 use Rattle.part.specs.declared.Part.{Part}

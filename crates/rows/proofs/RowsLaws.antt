@@ -28,16 +28,16 @@ use Rattle.eit.proofs.RowLaws.{row-eight}
 use Rattle.section.specs.declared.header.Header.{Header}
 use Rattle.section.specs.Sections.{sectionBy}
 use Rattle.section.proofs.SectionLaws.{section-sound}
-use Rattle.entry.specs.Entries.{tableOf, formatOf, countOf, firstOf, entryWalk}
+use Rattle.entry.specs.Entries.{kindOfEntry, formatOf, entryCount, firstEntry, entryWalk}
 use Rattle.entry.specs.Inner.{Begins}
 use Rattle.entry.proofs.EntryLaws.{entry-inside, judged-entries, judged-begins}
 use Rattle.rows.specs.declared.Row.{Row}
 use Rattle.rows.specs.declared.Row.the-variants.{Table, Channel, Dimension, Event}
-use Rattle.rows.specs.Rows.{entryFor, width, rowAt, nextAt, rowsFrom, roomFor, rowsIn, withRows}
+use Rattle.rows.specs.Rows.{entryFor, rowWidth, rowAt, nextAt, rowsFrom, roomForRows, rowsIn, withRows}
 use Rattle.rows.specs.Inner.{Entries}
 
 -- ---- each table's row
-row-length : (r : Row) (s : List ℕ) (a : ℕ) → length (rowAt r s a) ≡ width r
+row-length : (r : Row) (s : List ℕ) (a : ℕ) → length (rowAt r s a) ≡ rowWidth r
 unfolding rowAt
 row-length Table s a = row-six s a
 row-length Channel s a = row-21 s a
@@ -53,8 +53,8 @@ entry-ends Dimension s end a b w = dimension-ends s end a b w
 entry-ends Event s end a b w = event-ends s end a b w
 
 -- a count takes two bytes at most, so that the size of all rows is a number the code can hold
-pub count-small : (r : Row) (s : List ℕ) → Bytes s → countOf (entryFor r) s < 65536
-unfolding countOf
+pub count-small : (r : Row) (s : List ℕ) → Bytes s → entryCount (entryFor r) s < 65536
+unfolding entryCount
 count-small Table s z = omega (arith, z 9, z 10)
 count-small Channel s z = omega (arith, z 9)
 count-small Dimension s z = omega (arith, z (textEnd s 9))
@@ -70,12 +70,12 @@ room-step w (suc n) p h = rw sub-one (omega (arith, mul-suc w n))
 pub record RowsLeft (r : Row) (s : List ℕ) (size : ℕ) (final l : List ℕ) (a p n : ℕ) : Type 0 where
   pub entries : Entries r s n a
   pub same : length l ≡ size
-  pub room : p + width r * n ≤ size
+  pub room : p + rowWidth r * n ≤ size
   pub leads : sets l p (rowsFrom r s n a) ≡ final
 
 module _ (r : Row) (s : List ℕ) where
   row-more : (l : List ℕ) (p n a : ℕ) → 0 < n
-      → sets (sets l p (rowAt r s a)) (p + width r) (rowsFrom r s (n - 1) (nextAt r s a)) ≡ sets l p (rowsFrom r s n a)
+      → sets (sets l p (rowAt r s a)) (p + rowWidth r) (rowsFrom r s (n - 1) (nextAt r s a)) ≡ sets l p (rowsFrom r s n a)
   unfolding rowsFrom
   row-more l p zero a h = absurd (omega arith)
   row-more l p (suc n) a h =
@@ -103,17 +103,17 @@ module _ (r : Row) (s : List ℕ) where
 
   module _ (size : ℕ) (final l : List ℕ) (a p n : ℕ) (left : RowsLeft r s size final l a p n) where
     -- the next row has room
-    pub rows-room : 0 < n → p + width r ≤ length l
-    rows-room h = let e = room-step (width r) n p h in omega (arith, e, left .room, left .same)
+    pub rows-room : 0 < n → p + rowWidth r ≤ length l
+    rows-room h = let e = room-step (rowWidth r) n p h in omega (arith, e, left .room, left .same)
 
-    pub rows-step : (m : List ℕ) (b w : ℕ) → 0 < n → m ≡ sets l p (rowAt r s a) → b ≡ nextAt r s a → w ≡ width r
+    pub rows-step : (m : List ℕ) (b w : ℕ) → 0 < n → m ≡ sets l p (rowAt r s a) → b ≡ nextAt r s a → w ≡ rowWidth r
         → RowsLeft r s size final m b (p + w) (n - 1)
     rows-step m b w h put next e =
         rw (next, e)
         (record {
           entries = entries-step n a h (left .entries);
           same = ap length put ∙ length-sets l p (rowAt r s a) ∙ left .same;
-          room = let k = room-step (width r) n p h in omega (arith, k, left .room);
+          room = let k = room-step (rowWidth r) n p h in omega (arith, k, left .room);
           leads = rw put (row-more l p n a h ∙ left .leads);
         })
 
@@ -126,34 +126,34 @@ unfolding formatOf
 dimension-stands s n d h t = let m = many-inv _ n d (t .stands .0) h (t .stands .1) in (m .0, m .1 .0)
 
 -- ---- whether n rows of w numbers have room, and what the lent list is then
-module _ (r : Row) (s l : List ℕ) (w n : ℕ) (wide : w ≡ width r) (counted : n ≡ countOf (entryFor r) s) where
+module _ (r : Row) (s l : List ℕ) (w n : ℕ) (wide : w ≡ rowWidth r) (counted : n ≡ entryCount (entryFor r) s) where
   pub no-room : length l < w * n → (refused 12 ≡ rowsIn r s (length l)) × (l ≡ withRows r s (rowsIn r s (length l)) l)
-  unfolding rowsIn roomFor withRows
+  unfolding rowsIn roomForRows withRows
   no-room h =
       let k = rw (wide, counted) at h in
-      let e = lt-yes (length l) (width r * countOf (entryFor r) s) (refused 12) (result (countOf (entryFor r) s)) {r = refused 12} k refl in
+      let e = lt-yes (length l) (rowWidth r * entryCount (entryFor r) s) (refused 12) (result (entryCount (entryFor r) s)) {r = refused 12} k refl in
       (e, rw (← e))
 
-  pub enough-room : (m : List ℕ) (a : ℕ) → w * n ≤ length l → a ≡ firstOf (entryFor r) s → m ≡ sets l 0 (rowsFrom r s n a)
+  pub enough-room : (m : List ℕ) (a : ℕ) → w * n ≤ length l → a ≡ firstEntry (entryFor r) s → m ≡ sets l 0 (rowsFrom r s n a)
       → (result n ≡ rowsIn r s (length l)) × (m ≡ withRows r s (rowsIn r s (length l)) l)
-  unfolding rowsIn roomFor withRows
+  unfolding rowsIn roomForRows withRows
   enough-room m a h first put =
       let k = rw (wide, counted) at h in
-      let e = lt-no (length l) (width r * countOf (entryFor r) s) (refused 12) (result (countOf (entryFor r) s)) {r = result n} k (ap result counted) in
+      let e = lt-no (length l) (rowWidth r * entryCount (entryFor r) s) (refused 12) (result (entryCount (entryFor r) s)) {r = result n} k (ap result counted) in
       (e, rw (← e, ← first) put)
 
 -- ---- what a section that was judged has, before its rows are asked for
-largest-small : (r : Row) → limitsOf (tableOf (entryFor r)) .largest + 3 ≤ 4096
+largest-small : (r : Row) → limitsOf (kindOfEntry (entryFor r)) .largest + 3 ≤ 4096
 largest-small Table = omega arith
 largest-small Channel = omega arith
 largest-small Dimension = omega arith
 largest-small Event = omega arith
 
-pub judged-rows : (r : Row) (s : List ℕ) (h : Header) → sectionBy (onlyOf (tableOf (entryFor r))) s ≡ result h
-    → Begins (entryFor r) s × Entries r s (countOf (entryFor r) s) (firstOf (entryFor r) s)
+pub judged-rows : (r : Row) (s : List ℕ) (h : Header) → sectionBy (onlyOf (kindOfEntry (entryFor r))) s ≡ result h
+    → Begins (entryFor r) s × Entries r s (entryCount (entryFor r) s) (firstEntry (entryFor r) s)
 unfolding entryWalk
 judged-rows r s h judged =
     let b = judged-begins (entryFor r) s h judged in
-    let p = section-sound (tableOf (entryFor r)) s h judged .0 in
+    let p = section-sound (kindOfEntry (entryFor r)) s h judged .0 in
     let m = largest-small r in
     (b, record { stands = judged-entries (entryFor r) s h judged; begins = b .first; small = omega (arith, m, p .largest, p .size) })

@@ -16,9 +16,9 @@ use Rattle.rrt.specs.Inner.{ValuesStand}
 use Rattle.rrt.proofs.EndLaws.{values-step, values-more, values-none}
 use Rattle.rrt.proofs.RowLaws.{row-six}
 use Rattle.entry.specs.declared.Entry.the-variants as entries
-use Rattle.entry.specs.Entries.{countOf, firstOf}
+use Rattle.entry.specs.Entries.{entryCount, firstEntry}
 use Rattle.rows.specs.declared.Row.the-variants.{Dimension}
-use Rattle.rows.specs.Rows.{nextAt, roomFor}
+use Rattle.rows.specs.Rows.{nextAt, roomForRows}
 use Rattle.rows.specs.Values.{valueRows, dimensionRows, valueCount, valueRowsIn, withValueRows}
 use Rattle.rows.specs.Inner.{Entries}
 use Rattle.rows.proofs.RowsLaws.{entries-step}
@@ -140,24 +140,24 @@ module _ (s : List ℕ) where
     dimensions-done e = dimension-none l p i n d e ∙ left .leads
 
 -- ---- whether the rows of all values have room, and what the lent list is then
-pub dimensions-few : (s : List ℕ) → Bytes s → countOf entries.Dimension s < 256
-unfolding countOf
+pub dimensions-few : (s : List ℕ) → Bytes s → entryCount entries.Dimension s < 256
+unfolding entryCount
 dimensions-few s z = omega (arith, z (textEnd s 9))
 
-module _ (s l : List ℕ) (n : ℕ) (counted : n ≡ valueCount s (countOf entries.Dimension s) (firstOf entries.Dimension s)) where
+module _ (s l : List ℕ) (n : ℕ) (counted : n ≡ valueCount s (entryCount entries.Dimension s) (firstEntry entries.Dimension s)) where
   pub values-short : length l < 6 * n → (refused 12 ≡ valueRowsIn s (length l)) × (l ≡ withValueRows s (valueRowsIn s (length l)) l)
-  unfolding valueRowsIn roomFor withValueRows
+  unfolding valueRowsIn roomForRows withValueRows
   values-short h =
       let k = rw counted at h in
-      let c = valueCount s (countOf entries.Dimension s) (firstOf entries.Dimension s) in
+      let c = valueCount s (entryCount entries.Dimension s) (firstEntry entries.Dimension s) in
       let e = lt-yes (length l) (6 * c) (refused 12) (result c) {r = refused 12} k refl in
       (e, rw (← e))
 
-  pub values-fit : (m : List ℕ) → 6 * n ≤ length l → m ≡ sets l 0 (dimensionRows s 0 (countOf entries.Dimension s) (firstOf entries.Dimension s))
+  pub values-fit : (m : List ℕ) → 6 * n ≤ length l → m ≡ sets l 0 (dimensionRows s 0 (entryCount entries.Dimension s) (firstEntry entries.Dimension s))
       → (result n ≡ valueRowsIn s (length l)) × (m ≡ withValueRows s (valueRowsIn s (length l)) l)
-  unfolding valueRowsIn roomFor withValueRows
+  unfolding valueRowsIn roomForRows withValueRows
   values-fit m h put =
       let k = rw counted at h in
-      let c = valueCount s (countOf entries.Dimension s) (firstOf entries.Dimension s) in
+      let c = valueCount s (entryCount entries.Dimension s) (firstEntry entries.Dimension s) in
       let e = lt-no (length l) (6 * c) (refused 12) (result c) {r = result n} k (ap result counted) in
       (e, rw (← e) put)

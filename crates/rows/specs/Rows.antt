@@ -13,13 +13,13 @@ use Rattle.eit.specs.Fields.{eventRow, eventEnd}
 use Rattle.section.specs.Sections.{sectionBy}
 use Rattle.entry.specs.declared.Entry.{Entry}
 use Rattle.entry.specs.declared.Entry.the-variants as entries
-use Rattle.entry.specs.Entries.{tableOf, countOf, firstOf}
+use Rattle.entry.specs.Entries.{kindOfEntry, entryCount, firstEntry}
 use Rattle.rows.specs.declared.Row.{Row}
 use Rattle.rows.specs.declared.Row.the-variants.{Table, Channel, Dimension, Event}
 use Rattle.rows.specs.declared.RowsAnswer.{RowsAnswer}
 use Rattle.rows.specs.declared.RowsAnswer.the-variants.{Refused, Are}
 
--- the entries that have rows
+-- a row for each of the entries that tables repeat (a type of its own, which the call names)
 abbrev pub entryFor : Row → Entry
 entryFor Table = entries.Table
 entryFor Channel = entries.Channel
@@ -27,11 +27,11 @@ entryFor Dimension = entries.Dimension
 entryFor Event = entries.Event
 
 -- how many numbers a row has
-abbrev pub width : Row → ℕ
-width Table = 6
-width Channel = 21
-width Dimension = 4
-width Event = 8
+abbrev pub rowWidth : Row → ℕ
+rowWidth Table = 6
+rowWidth Channel = 21
+rowWidth Dimension = 4
+rowWidth Event = 8
 
 -- the row of the entry that begins at a, and where the next entry begins
 unfoldable pub rowAt : Row → List ℕ → ℕ → List ℕ
@@ -52,20 +52,20 @@ rowsFrom r s zero a = []
 rowsFrom r s (suc n) a = rowAt r s a ++ rowsFrom r s n (nextAt r s a)
 
 -- 12 where n rows of w numbers have no room
-unfoldable pub roomFor : ℕ → ℕ → ℕ → Outcome ℕ
-roomFor w n room = ifLt room (w * n) (refused 12) (result n)
+unfoldable pub roomForRows : ℕ → ℕ → ℕ → Outcome ℕ
+roomForRows w n room = ifLt room (w * n) (refused 12) (result n)
 
 -- how many rows a section has, or 12 where a list of this length has no room for them
 unfoldable pub rowsIn : Row → List ℕ → ℕ → Outcome ℕ
-rowsIn r s room = roomFor (width r) (countOf (entryFor r) s) room
+rowsIn r s room = roomForRows (rowWidth r) (entryCount (entryFor r) s) room
 
 unfoldable pub rowsOf : Row → List ℕ → ℕ → Outcome ℕ
-rowsOf r s room = after (sectionBy (onlyOf (tableOf (entryFor r))) s) (λ h. rowsIn r s room)
+rowsOf r s room = after (sectionBy (onlyOf (kindOfEntry (entryFor r))) s) (λ h. rowsIn r s room)
 
 -- the lent list after its rows were asked for: they are stored from its beginning on, and nothing else changes
 unfoldable pub withRows : Row → List ℕ → Outcome ℕ → List ℕ → List ℕ
 withRows r s (refused k) l = l
-withRows r s (result n) l = sets l 0 (rowsFrom r s n (firstOf (entryFor r) s))
+withRows r s (result n) l = sets l 0 (rowsFrom r s n (firstEntry (entryFor r) s))
 
 abbrev pub rowsOutcome : RowsAnswer → Outcome ℕ
 rowsOutcome (Refused k) = refused (numberOf k)

@@ -8,8 +8,8 @@ use Rattle.kind.specs.Kinds.{onlyOf}
 use Rattle.rrt.specs.Fields.{valuesAt, firstValueAt, valueEnd, dimensionEnd, valueRow}
 use Rattle.section.specs.Sections.{sectionBy}
 use Rattle.entry.specs.declared.Entry.the-variants.{Dimension}
-use Rattle.entry.specs.Entries.{countOf, firstOf}
-use Rattle.rows.specs.Rows.{roomFor}
+use Rattle.entry.specs.Entries.{entryCount, firstEntry}
+use Rattle.rows.specs.Rows.{roomForRows}
 
 -- the rows of n values of dimension i, the first of which is number j and begins at a
 unfoldable pub valueRows : List ℕ → ℕ → ℕ → ℕ → ℕ → List ℕ
@@ -28,7 +28,7 @@ valueCount s (suc n) d = valuesAt s d + valueCount s n (dimensionEnd s d)
 
 -- how many rows a section has, of six numbers each, or 12 where a list of this length has no room for them
 unfoldable pub valueRowsIn : List ℕ → ℕ → Outcome ℕ
-valueRowsIn s room = roomFor 6 (valueCount s (countOf Dimension s) (firstOf Dimension s)) room
+valueRowsIn s room = roomForRows 6 (valueCount s (entryCount Dimension s) (firstEntry Dimension s)) room
 
 unfoldable pub valueRowsOf : List ℕ → ℕ → Outcome ℕ
 valueRowsOf s room = after (sectionBy (onlyOf Rrt) s) (λ h. valueRowsIn s room)
@@ -36,4 +36,4 @@ valueRowsOf s room = after (sectionBy (onlyOf Rrt) s) (λ h. valueRowsIn s room)
 -- the lent list after its rows were asked for: they are stored from its beginning on, and nothing else changes
 unfoldable pub withValueRows : List ℕ → Outcome ℕ → List ℕ → List ℕ
 withValueRows s (refused k) l = l
-withValueRows s (result n) l = sets l 0 (dimensionRows s 0 (countOf Dimension s) (firstOf Dimension s))
+withValueRows s (result n) l = sets l 0 (dimensionRows s 0 (entryCount Dimension s) (firstEntry Dimension s))

@@ -14,9 +14,9 @@ ghost use mathlib.Core.Path.{_≡_};
 ghost use Prim.Native.Nat.{_+_, _*_, _≤_};
 ghost use lib.ListN.{length};
 ghost use lib.Seq.{sets};
-ghost use Rattle.entry.specs.Entries.{tableOf, countOf, firstOf};
+ghost use Rattle.entry.specs.Entries.{kindOfEntry, entryCount, firstEntry};
 ghost use Rattle.entry.specs.Inner.{Begins};
-ghost use Rattle.rows.specs.Rows.{entryFor, width, rowAt, nextAt, rowsFrom, rowsIn, rowsOf, withRows, rowsOutcome};
+ghost use Rattle.rows.specs.Rows.{entryFor, rowWidth, rowAt, nextAt, rowsFrom, rowsIn, rowsOf, withRows, rowsOutcome};
 ghost use Rattle.rows.specs.Inner.{Entries};
 
 // The entries that have rows. A table's row has six numbers: table_type, PID, version, number_bytes,
@@ -52,7 +52,7 @@ fn entry_for(row: Row) -> Entry
 }
 
 fn kind_for(row: Row) -> Kind
-    ensures { λ r. ⌜ r ≡ tableOf (entryFor row) ⌝ }
+    ensures { λ r. ⌜ r ≡ kindOfEntry (entryFor row) ⌝ }
 {
     match row {
         Row::Table => Kind::Mgt,
@@ -63,7 +63,7 @@ fn kind_for(row: Row) -> Kind
 }
 
 fn width_of(row: Row) -> usize
-    ensures { λ r. ⌜ (r ≡ width row) × (r ≤ 21) ⌝ }
+    ensures { λ r. ⌜ (r ≡ rowWidth row) × (r ≤ 21) ⌝ }
 {
     match row {
         Row::Table => 6,
@@ -75,7 +75,7 @@ fn width_of(row: Row) -> usize
 
 // The row of the entry that begins at a, from p on, and where the next one begins.
 fn put_row(s: &[u8], row: Row, a: usize, p: usize, out: &mut [u32]) -> usize
-    requires { ⌜ Entries row (now s) 1 a × (p + width row ≤ length (now out)) ⌝ }
+    requires { ⌜ Entries row (now s) 1 a × (p + rowWidth row ≤ length (now out)) ⌝ }
     ensures next { λ r. ⌜ r ≡ nextAt row (now (s .entry)) a ⌝ }
     ensures puts { λ _. ⌜ now (out .exit) ≡ sets (now (out .entry)) p (rowAt row (now (s .entry)) a) ⌝ }
 {
@@ -89,7 +89,7 @@ fn put_row(s: &[u8], row: Row, a: usize, p: usize, out: &mut [u32]) -> usize
 
 // The rows of n entries, the first of which begins at `from`.
 fn put_rows(s: &[u8], row: Row, n: usize, from: usize, out: &mut [u32])
-    requires { ⌜ Entries row (now s) n from × (width row * n ≤ length (now out)) ⌝ }
+    requires { ⌜ Entries row (now s) n from × (rowWidth row * n ≤ length (now out)) ⌝ }
     ensures { λ _. ⌜ now (out .exit) ≡ sets (now (out .entry)) 0 (rowsFrom row (now (s .entry)) n from) ⌝ }
 {
     let size = width_of(row);
@@ -105,7 +105,7 @@ fn put_rows(s: &[u8], row: Row, n: usize, from: usize, out: &mut [u32])
 
 // The rows of a section that was judged.
 fn rows_in(s: &[u8], row: Row, out: &mut [u32]) -> RowsAnswer
-    requires { ⌜ Begins (entryFor row) (now s) × Entries row (now s) (countOf (entryFor row) (now s)) (firstOf (entryFor row) (now s)) ⌝ }
+    requires { ⌜ Begins (entryFor row) (now s) × Entries row (now s) (entryCount (entryFor row) (now s)) (firstEntry (entryFor row) (now s)) ⌝ }
     ensures told { λ r. ⌜ rowsOutcome r ≡ rowsIn row (now (s .entry)) (length (now (out .entry))) ⌝ }
     ensures put { λ _. ⌜ now (out .exit) ≡ withRows row (now (s .entry)) (rowsIn row (now (s .entry)) (length (now (out .entry)))) (now (out .entry)) ⌝ }
 {

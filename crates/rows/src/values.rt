@@ -20,7 +20,7 @@ ghost use lib.ListN.{length};
 ghost use lib.Seq.{sets};
 ghost use Rattle.rrt.specs.Fields.{valuesEnd};
 ghost use Rattle.rrt.specs.Inner.{ValuesStand};
-ghost use Rattle.entry.specs.Entries.{countOf, firstOf};
+ghost use Rattle.entry.specs.Entries.{entryCount, firstEntry};
 ghost use Rattle.entry.specs.Inner.{Begins};
 ghost use Rattle.rows.specs.Rows.{rowsOutcome};
 ghost use Rattle.rows.specs.Values.{valueRows, dimensionRows, valueCount, valueRowsIn, valueRowsOf, withValueRows};
@@ -78,7 +78,7 @@ fn count_values(s: &[u8], n: usize, from: usize) -> usize
 
 // The rows of a section that was judged.
 fn value_rows_in(s: &[u8], out: &mut [u32]) -> RowsAnswer
-    requires { ⌜ Begins Entry.Dimension (now s) × Entries Row.Dimension (now s) (countOf Entry.Dimension (now s)) (firstOf Entry.Dimension (now s)) ⌝ }
+    requires { ⌜ Begins Entry.Dimension (now s) × Entries Row.Dimension (now s) (entryCount Entry.Dimension (now s)) (firstEntry Entry.Dimension (now s)) ⌝ }
     ensures told { λ r. ⌜ rowsOutcome r ≡ valueRowsIn (now (s .entry)) (length (now (out .entry))) ⌝ }
     ensures put { λ _. ⌜ now (out .exit) ≡ withValueRows (now (s .entry)) (valueRowsIn (now (s .entry)) (length (now (out .entry)))) (now (out .entry)) ⌝ }
 {

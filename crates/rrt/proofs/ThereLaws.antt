@@ -22,7 +22,7 @@ use Rattle.row.specs.Rows.{partRow}
 use Rattle.rrt.specs.declared.dimension.Dimension.{Dimension}
 use Rattle.rrt.specs.declared.dimension.ValueTexts.{ValueTexts}
 use Rattle.rrt.specs.Format.{scaleHead, ValueFields, valueFormat, value, DimensionFields, dimensionFormat, dimension}
-use Rattle.rrt.specs.Format.{dimensions, rest, RrtFields, rrtFormat, rrt}
+use Rattle.rrt.specs.Format.{dimensions, dimensionsAndList, RrtFields, rrtFormat, rrt}
 use Rattle.rrt.specs.Fields.{countAt, firstAt, fieldsAt, valuesAt, firstValueAt, dimensionAt, textsAt, valueEnd, dimensionEnd, dimensionRow, textsRow, valueRow}
 use Rattle.rrt.specs.Values.{partFor, textsFor, valueRowFor, dimensionFor, rowFor, firstValueFor, firstFor, dimensionsEnd, fieldsFor}
 use Rattle.rrt.proofs.WalkLaws.{value-ends, dimension-ends}
@@ -127,7 +127,7 @@ module _ (s : List ℕ) (z : Bytes s) where
 -- ---- the whole body
 -- the code's promises name the body without the names of its values; its walk is the same
 pub same-walk : (s : List ℕ) (end at : ℕ) → walksAll rrt s end at ≡ walksAll rrtFormat s end at
-unfolding rrt rest dimensions dimension value sizedText list10
+unfolding rrt dimensionsAndList dimensions dimension value sizedText list10
 same-walk s end at = refl
 
 module _ (s : List ℕ) (z : Bytes s) (at end : ℕ) (b : RrtFields) (o : rrtFormat .Ok (record {}) b) (l : Lies (rrtFormat .enc b) s at)

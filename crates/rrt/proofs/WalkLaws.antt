@@ -18,7 +18,7 @@ use Rattle.strings.specs.Strings.{sizedText}
 use Rattle.strings.specs.Places.{textEnd}
 use Rattle.strings.proofs.TextLaws.{text-end, text-inside}
 use Rattle.descriptor.specs.Descriptors.{list10, noTag}
-use Rattle.rrt.specs.Format.{value, dimension, dimensions, rest, rrt}
+use Rattle.rrt.specs.Format.{value, dimension, dimensions, dimensionsAndList, rrt}
 use Rattle.rrt.specs.Fields.{countAt, firstAt, valuesAt, firstValueAt, valueEnd, valuesEnd, dimensionEnd}
 
 -- ---- a count that is not 0, of which g is made, and as many of a format
@@ -101,12 +101,12 @@ module _ (s : List ℕ) (end at e : ℕ) (w : walksAll rrt s end at ≡ To e) wh
 
   pub body-dimensions : (b : ℕ) × ((many (walks dimension s end) (countAt s at) (firstAt s at) ≡ To b)
       × ((walks (list10 noTag) s end b ≡ To e) × (firstAt s at ≤ end)))
-  unfolding rrt rest dimensions
+  unfolding rrt dimensionsAndList dimensions
   body-dimensions =
       let p = then-inv _ _ e w in
       let q = then-inv _ _ (p .0) (p .1 .0) in
       let d = ended end (p .0) e (p .1 .1) in
       let t = text-end s end at (q .0) (q .1 .0) in
-      let r = then-inv _ _ (p .0) (ap (walks rest s end) (sym t) ∙ q .1 .1) in
+      let r = then-inv _ _ (p .0) (ap (walks dimensionsAndList s end) (sym t) ∙ q .1 .1) in
       let m = some-stands dimension (λ n. n) s end (textEnd s at) (r .0) (r .1 .0) in
       (r .0, (m .0, (r .1 .1 ∙ ap To (d .0 ∙ sym (d .1)), m .1)))

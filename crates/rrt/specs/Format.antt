@@ -18,6 +18,7 @@ valueFormat =
     under (seq (sized8 text) (sized8 text)) {Y = ValueFields} (λ v. ((record {}, v .short), (record {}, v .long)))
     (λ x. record { short = x .0 .1; long = x .1 .1 }) (λ x. refl) (λ y. refl)
 
+-- the same, shut, for the walk that the code is held to (law `same-walk`)
 unfoldable pub value : Format One
 value = valueFormat
 
@@ -39,6 +40,7 @@ dimensionFormat =
     (λ x. record { name = x .0 .1; r = x .1 .0 .0; scale = x .1 .0 .1 .0; values = x .1 .1 })
     (λ x. refl) (λ y. refl)
 
+-- the same, shut
 unfoldable pub dimension : Format One
 dimension = dimensionFormat
 
@@ -47,8 +49,8 @@ unfoldable pub dimensions : Format One
 dimensions = notNone dimension
 
 -- what follows the region name: the dimensions; r 6, length 10, descriptors
-unfoldable pub rest : Format One
-rest = seq dimensions (list10 noTag)
+unfoldable pub dimensionsAndList : Format One
+dimensionsAndList = seq dimensions (list10 noTag)
 
 -- the region name with a length of 8 bits; the rest
 pub record RrtFields : Type 0 where
@@ -64,5 +66,6 @@ rrtFormat =
     (λ x. record { name = x .0 .1; dimensions = x .1 .0 .1; r = x .1 .1 .0 .0; descs = x .1 .1 .1 })
     (λ x. refl) (λ y. refl)
 
+-- the same walk, shut, which the code is held to (law `same-walk`)
 unfoldable pub rrt : Filling One
-rrt = exact (seq sizedText rest)
+rrt = exact (seq sizedText dimensionsAndList)

@@ -1,4 +1,4 @@
--- What is answered for a value of the format, where its encoding lies at a place.
+-- SCOPE 2.3: what is answered for a value of the RRT's format, by the record alone, where its encoding lies at a place.
 use Prim.Native.Nat.{ℕ, _+_, _%_}
 use mathlib.Core.Path.{_≡_}
 use mathlib.Core.List.{List, [], _∷_, _++_}

@@ -10,7 +10,7 @@ use strings::sized_text;
 ghost use mathlib.Core.Path.{_≡_};
 ghost use Rattle.bytes_at.specs.Walks.{many};
 ghost use Rattle.format.specs.Formats.{walks, walksAll, some};
-ghost use Rattle.rrt.specs.Format.{value, dimension, dimensions, rest, rrt};
+ghost use Rattle.rrt.specs.Format.{value, dimension, dimensions, dimensionsAndList, rrt};
 
 fn one_value(s: &[u8], end: usize, at: usize) -> Walk
     ensures { λ r. ⌜ r ≡ walks value (now (s .entry)) end at ⌝ }
@@ -101,7 +101,7 @@ fn all_dimensions(s: &[u8], end: usize, at: usize) -> Walk
 
 // What follows the region name.
 fn after_name(s: &[u8], end: usize, at: usize) -> Walk
-    ensures { λ r. ⌜ r ≡ walks rest (now (s .entry)) end at ⌝ }
+    ensures { λ r. ⌜ r ≡ walks dimensionsAndList (now (s .entry)) end at ⌝ }
 {
     let w = all_dimensions(s, end, at);
     let Walk::To(b) = w else {

@@ -19,7 +19,7 @@ use Rattle.format.specs.Named.{vals-there}
 use Rattle.section.specs.declared.header.Header.{Header}
 use Rattle.section.specs.Bodies.{bodyFormat}
 use Rattle.section.specs.Headers.{headerIn, headerBy}
-use Rattle.section.specs.Sections.{bodyWalk, walked, bodyTest, withBody, verdictBy, plainly, sectionBy}
+use Rattle.section.specs.Sections.{bodyWalk, byWalk, bodyTest, withBody, verdictBy, plainly, sectionBy}
 use Rattle.section.specs.Encoding.{headerHead, HeaderFields, Section, headFor, unsealed, encodeWith, bodyBytes, encode, WellFormed, headerOf}
 use Rattle.section.proofs.HeaderLaws.{Are, header-bits}
 use Rattle.section.proofs.KindLaws.{known, same-walk}
@@ -96,7 +96,7 @@ encode-bytes k y o =
 stands : (k : Kind) (s : List ℕ) (h : Header) (e : ℕ) → headerBy (onlyOf k) s ≡ result h → bodyWalk (h .kind) s ≡ To e
     → sectionBy (onlyOf k) s ≡ result h
 unfolding sectionBy verdictBy withBody bodyTest
-stands k s h e p q = ap (λ o. plainly (withBody o s)) p ∙ ap (λ w. plainly (walked w h)) q
+stands k s h e p q = ap (λ o. plainly (withBody o s)) p ∙ ap (λ w. plainly (byWalk w h)) q
 
 module _ (k : Kind) (y : Section k) (o : WellFormed k y) where
   are : Are (encode y) (headOf k y)

@@ -21,7 +21,7 @@ use Rattle.kind.specs.declared.Found.the-variants.{Is, Nothing}
 use Rattle.kind.specs.Kinds.{limitsOf, tableIdOf, kindOf, onlyOf}
 use Rattle.section.specs.declared.header.Header.{Header}
 use Rattle.section.specs.Headers.{tableId, syntaxIndicator, privateIndicator, sectionLength, sectionNumber, lastSectionNumber, headerIn, headerBy, ofKind, lengthTests, checksumTest, numberTests}
-use Rattle.section.specs.Sections.{bodyWalk, walked, bodyTest, withBody, verdictBy, plainly, sectionBy}
+use Rattle.section.specs.Sections.{bodyWalk, byWalk, bodyTest, withBody, verdictBy, plainly, sectionBy}
 use Rattle.section.proofs.PassLaws.{not-less, equal, not-equal}
 
 -- what the header's tests have shown of a section of kind k
@@ -104,7 +104,7 @@ pub any-header-passed : (s : List ℕ) (h : Header) → headerBy kindOf s ≡ re
 unfolding headerBy
 any-header-passed s h e = any-kind (kindOf (tableId s)) s h (not-less _ _ _ _ _ e .1)
 
-walk-stood : (w : Walk) (g h : Header) → plainly (walked w g) ≡ result h → ((e : ℕ) × (w ≡ To e)) × (h ≡ g)
+walk-stood : (w : Walk) (g h : Header) → plainly (byWalk w g) ≡ result h → ((e : ℕ) × (w ≡ To e)) × (h ≡ g)
 walk-stood (To e) g h p = ((e, refl), same g h p)
 walk-stood (Bad x) g h p = not-both 9 h p
 

@@ -22,6 +22,7 @@ abbrev pub headerHead : List Field
 headerHead =
     bits 8 ∷ bits 1 ∷ bits 1 ∷ reserved 2 ∷ bits 12 ∷ bits 16 ∷ reserved 2 ∷ bits 5 ∷ bits 1 ∷ bits 8 ∷ bits 8 ∷ bits 8 ∷ []
 
+-- ---- a section as a record
 -- what headers of a kind differ in; the other fields are told by the kind and the body
 pub record HeaderFields : Type 0 where
   pub r1 : ℕ
@@ -36,6 +37,7 @@ pub record Section (k : Kind) : Type 0 where
   pub header : HeaderFields
   pub body : bodyFormat k .Val
 
+-- ---- its bytes
 -- section_length counts the bytes after it, where the body has n: six of the header, the body, four of the checksum
 abbrev pub lengthWith : ℕ → ℕ
 lengthWith n = 6 + n + 4
@@ -58,6 +60,7 @@ bodyBytes {k} y = bodyFormat k .enc (y .body)
 abbrev pub encode : {k : Kind} → Section k → List ℕ
 encode {k} y = encodeWith k (y .header) (bodyBytes y)
 
+-- ---- which are well formed
 -- each field fits its bits, the length and the numbers are those of the table of kinds, and the body is well formed
 pub record WellFormed (k : Kind) (y : Section k) : Type 0 where
   pub r1 : y .header .r1 < 4
@@ -71,6 +74,7 @@ pub record WellFormed (k : Kind) (y : Section k) : Type 0 where
   pub largest : lengthWith (length (bodyBytes y)) ≤ limitsOf k .largest
   pub body : bodyFormat k .Ok (record {}) (y .body)
 
+-- ---- what is told of it
 -- the header that is answered
 abbrev pub headerOf : {k : Kind} → Section k → Header
 headerOf {k} y = record {

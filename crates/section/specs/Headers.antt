@@ -16,7 +16,7 @@ use Rattle.section.specs.declared.header.Header.{Header}
 use Rattle.section.specs.declared.header.Head.{Head}
 use Rattle.section.specs.declared.header.Head.the-variants.{Refused, Passes}
 
--- ---- the fields, by the names of SCOPE 1.3
+-- ---- the fields, by the names of SCOPE 1.3: the same as those of `headerHead` in Encoding.antt (law `header-bits`), read by their bytes
 abbrev pub tableId : List ℕ → ℕ
 tableId s = byteAt s 0
 

@@ -32,13 +32,14 @@ verdictOf (Refused k) = refusedBy (numberOf k)
 verdictOf (Broken x) = brokenAt x
 verdictOf (Sound h) = soundWith h
 
--- 9
-abbrev pub walked : Walk → Header → Verdict
-walked (To e) h = soundWith h
-walked (Bad x) h = brokenAt x
+-- how a walk through the body ends
+abbrev pub byWalk : Walk → Header → Verdict
+byWalk (To e) h = soundWith h
+byWalk (Bad x) h = brokenAt x
 
+-- 9
 unfoldable pub bodyTest : Header → List ℕ → Verdict
-bodyTest h s = walked (bodyWalk (h .kind) s) h
+bodyTest h s = byWalk (bodyWalk (h .kind) s) h
 
 -- 9 after 1 to 8
 unfoldable pub withBody : Outcome Header → List ℕ → Verdict

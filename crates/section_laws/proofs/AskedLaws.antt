@@ -10,7 +10,7 @@ use Rattle.format.specs.Lawful.{Lies, Bytes}
 use Rattle.strings.specs.Strings.{StringFields, structure, text, stringsOf, asText}
 use Rattle.strings.specs.Places.{textAt}
 use Rattle.descriptor.specs.Descriptors.{descriptorsOf, contentAdvisory}
-use Rattle.rating.specs.Ratings.{Place}
+use Rattle.rating.specs.Ratings.{TextPart}
 use Rattle.rating.specs.Values.{textBy, textPlace}
 use Rattle.rating.proofs.ThereLaws.{text-there}
 use Rattle.rating.proofs.TextLaws.{text-lies, text-none}
@@ -80,7 +80,7 @@ module _ {A : Type 0} (ask : List ℕ → Outcome A) (tell : List StringFields �
       title-asked = rw (eits.title-there s z a e o l) (titled (titlePlace a e .start) (e .title) (eits.title-lies s z a e o l))
 
       -- the text of a region, by where it is found
-      found : (region : ℕ) (q : Option Place) → textPlace region (descriptorsPlace a e .start) (descriptorsOf contentAdvisory (e .descs)) ≡ q
+      found : (region : ℕ) (q : Option TextPart) → textPlace region (descriptorsPlace a e .start) (descriptorsOf contentAdvisory (e .descs)) ≡ q
           → after (placeField q) (λ p. ask (bytesIn s p)) ≡ after (stringsIn (textBy region (descriptorsOf contentAdvisory (e .descs)))) tell
       unfolding after
       found region none k =

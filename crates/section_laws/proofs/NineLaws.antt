@@ -24,7 +24,7 @@ use Rattle.section.specs.Encoding.{Section}
 use Rattle.section.proofs.AcceptedLaws.{exactly}
 use Rattle.entry.specs.declared.Entry.{Entry}
 use Rattle.entry.specs.declared.Entry.the-variants.{Table, Channel, Dimension, Event}
-use Rattle.entry.specs.Entries.{tableOf}
+use Rattle.entry.specs.Entries.{kindOfEntry}
 use Rattle.entry.specs.Records.{recordOf, ofEntry}
 use Rattle.reading.specs.Mgts as mgts
 use Rattle.reading.specs.Tvcts as tvcts
@@ -32,7 +32,7 @@ use Rattle.reading.specs.Rrts as rrts
 use Rattle.reading.specs.Eits as eits
 use Rattle.reading.specs.Etts as etts
 use Rattle.rows.specs.declared.Row.{Row}
-use Rattle.rows.specs.Rows.{entryFor, width, roomFor, rowsOf}
+use Rattle.rows.specs.Rows.{entryFor, rowWidth, roomForRows, rowsOf}
 use Rattle.rows.specs.Values.{valueRowsOf}
 use Rattle.section_text.specs.declared.field.Which.{Which}
 use Rattle.section_text.specs.Fields.{kindFor, fieldOf}
@@ -79,7 +79,7 @@ module _ (k : Kind) {A : Type 0} (reader : List ℕ → Outcome A) (told : Secti
 
 -- what is asked of an entry
 fair-entry : (e : Entry) {A : Type 0} (told : ℕ → recordOf e .Val → Outcome A) → ((a : ℕ) (x : recordOf e .Val) → Fair (told a x)) → (i : ℕ)
-    → (y : Section (tableOf e)) → Fair (ofEntry e told i y)
+    → (y : Section (kindOfEntry e)) → Fair (ofEntry e told i y)
 fair-entry e told f i y = nth-fair _ told f _ _ i
 
 -- ---- the readers
@@ -129,12 +129,12 @@ room-fair-by : (t : Bool) (n : ℕ) → Fair (pick t (refused 12) (result n))
 room-fair-by true n = other-fair 12 (λ e. omega arith)
 room-fair-by false n = result-fair n
 
-room-fair : (w n room : ℕ) → Fair (roomFor w n room)
-unfolding roomFor ifLt
+room-fair : (w n room : ℕ) → Fair (roomForRows w n room)
+unfolding roomForRows ifLt
 room-fair w n room = room-fair-by (ltb room (w * n)) n
 
-pub rows-nine : (r : Row) (room : ℕ) → NoNine (tableOf (entryFor r)) (λ s. rowsOf r s room)
-rows-nine r room = fair-reader _ _ _ (row-count-reads r room) (λ y. room-fair (width r) _ room)
+pub rows-nine : (r : Row) (room : ℕ) → NoNine (kindOfEntry (entryFor r)) (λ s. rowsOf r s room)
+rows-nine r room = fair-reader _ _ _ (row-count-reads r room) (λ y. room-fair (rowWidth r) _ room)
 
 pub value-rows-nine : (room : ℕ) → NoNine Rrt (λ s. valueRowsOf s room)
 value-rows-nine room = fair-reader _ _ _ (value-count-reads room) (λ y. room-fair 6 _ room)
@@ -164,8 +164,8 @@ titles-fair-by true u c = other-fair 12 (λ e. omega arith)
 titles-fair-by false true c = other-fair 12 (λ e. omega arith)
 titles-fair-by false false c = result-fair c
 
-titles-fair : (c : titles.Counts) (rows units : ℕ) → Fair (titles.roomFor c rows units)
-unfolding titles.roomFor ifLt
+titles-fair : (c : titles.Counts) (rows units : ℕ) → Fair (titles.roomForTitles c rows units)
+unfolding titles.roomForTitles ifLt
 titles-fair c rows units = titles-fair-by (ltb rows (12 * c .events)) (ltb units (c .units)) c
 
 pub titles-nine : (rows units : ℕ) → NoNine Eit (λ s. titles.titlesOf s rows units)

@@ -12,7 +12,7 @@ use Rattle.rating.specs.Ratings.{ratingIn, descriptorIn, textIn}
 use Rattle.rating.specs.Values.{ratedBy, textPlace, descriptorFor}
 use Rattle.rating.proofs.ThereLaws as lists
 use Rattle.eit.specs.Format.{EventFields, eventFormat}
-use Rattle.eit.specs.Questions.{ratingAt, descriptorAt, advisoryTextAt}
+use Rattle.eit.specs.Questions.{ratingAt, eventDescriptor, advisoryTextAt}
 use Rattle.eit.specs.Values.{descriptorsPlace}
 use Rattle.eit.proofs.ThereLaws.{descriptors-lie, descriptors-there}
 use Rattle.section.specs.Encoding.{encode}
@@ -34,8 +34,8 @@ module _ (s : List ℕ) (z : Bytes s) (a : ℕ) (e : EventFields) (o : eventForm
       ap (λ (p : Part). ratingIn s region dimension (endOf p) (p .start)) (descriptors-there s z a e o l)
       ∙ lists.rating-there s z (endOf p) (p .start) (e .descs) (d .0) (d .1) refl region dimension
 
-  descriptor-told : (k : ℕ) → descriptorAt s a k ≡ descriptorFor contentAdvisory k (descriptorsPlace a e .start) (descriptorsOf contentAdvisory (e .descs))
-  unfolding descriptorAt
+  descriptor-told : (k : ℕ) → eventDescriptor s a k ≡ descriptorFor contentAdvisory k (descriptorsPlace a e .start) (descriptorsOf contentAdvisory (e .descs))
+  unfolding eventDescriptor
   descriptor-told k =
       let p = descriptorsPlace a e in
       let d = descriptors-lie s z a e o l in

@@ -16,13 +16,13 @@ use Rattle.eit.proofs.ThereLaws as eits
 use Rattle.section.specs.Encoding.{Section, encode, WellFormed}
 use Rattle.section.proofs.EncodingLaws.{encode-bytes, accepts}
 use Rattle.section.proofs.PassLaws.{not-less}
-use Rattle.entry.specs.Entries.{tableOf, firstOf}
+use Rattle.entry.specs.Entries.{kindOfEntry, firstEntry}
 use Rattle.entry.specs.Records.{recordOf, entriesOf, beginOf}
 use Rattle.entry.proofs.RecordLaws.{first-there, count-there, entries-stand}
 use Rattle.rows.specs.declared.Row.{Row}
 use Rattle.rows.specs.declared.Row.the-variants.{Table, Channel, Dimension, Event}
-use Rattle.rows.specs.Rows.{entryFor, width, rowAt, nextAt, rowsFrom, roomFor, rowsIn, rowsOf, withRows}
-use Rattle.section_laws.specs.Told.{rowTold, rowsTold, countTold, stored}
+use Rattle.rows.specs.Rows.{entryFor, rowWidth, rowAt, nextAt, rowsFrom, roomForRows, rowsIn, rowsOf, withRows}
+use Rattle.section_laws.specs.Told.{rowTold, rowsTold, countTold, storedRows}
 use Rattle.section_laws.specs.Accepted.{Reads, Stores}
 
 -- ---- of an entry that lies at a
@@ -56,35 +56,35 @@ module _ (s : List ℕ) (z : Bytes s) where
       λ i. e i ++ u i
 
 -- ---- the number of rows, and the lent list
-count-told : (r : Row) (room : ℕ) (y : Section (tableOf (entryFor r))) → WellFormed (tableOf (entryFor r)) y
+count-told : (r : Row) (room : ℕ) (y : Section (kindOfEntry (entryFor r))) → WellFormed (kindOfEntry (entryFor r)) y
     → rowsOf r (encode y) room ≡ countTold r room y
 unfolding rowsOf rowsIn
-count-told r room y o = after-result _ _ _ (accepts (tableOf (entryFor r)) y o) ∙ ap (λ n. roomFor (width r) n room) (count-there (entryFor r) y o)
+count-told r room y o = after-result _ _ _ (accepts (kindOfEntry (entryFor r)) y o) ∙ ap (λ n. roomForRows (rowWidth r) n room) (count-there (entryFor r) y o)
 
-pub row-count-reads : (r : Row) (room : ℕ) → Reads (tableOf (entryFor r)) (λ s. rowsOf r s room) (countTold r room)
+pub row-count-reads : (r : Row) (room : ℕ) → Reads (kindOfEntry (entryFor r)) (λ s. rowsOf r s room) (countTold r room)
 unfolding rowsOf
 row-count-reads r room = record { tells = count-told r room; refuses = λ s n q. after-refused _ _ n q }
 
-room-is : (w c room n : ℕ) → roomFor w c room ≡ result n → c ≡ n
-unfolding roomFor
+room-is : (w c room n : ℕ) → roomForRows w c room ≡ result n → c ≡ n
+unfolding roomForRows
 room-is w c room n e = same-result c n (not-less _ _ 12 (result c) n e .1)
 
-store-told : (r : Row) (s l rows : List ℕ) (o : Outcome ℕ) → ((n : ℕ) → o ≡ result n → rowsFrom r s n (firstOf (entryFor r) s) ≡ rows)
-    → withRows r s o l ≡ stored l rows o
-unfolding withRows stored
+store-told : (r : Row) (s l rows : List ℕ) (o : Outcome ℕ) → ((n : ℕ) → o ≡ result n → rowsFrom r s n (firstEntry (entryFor r) s) ≡ rows)
+    → withRows r s o l ≡ storedRows l rows o
+unfolding withRows storedRows
 store-told r s l rows (refused n) h = refl
 store-told r s l rows (result n) h = ap (sets l 0) (h n refl)
 
-pub rows-store : (r : Row) → Stores (tableOf (entryFor r)) (λ l s. withRows r s (rowsOf r s (length l)) l)
-    (λ l y. stored l (rowsTold r y) (countTold r (length l) y))
+pub rows-store : (r : Row) → Stores (kindOfEntry (entryFor r)) (λ l s. withRows r s (rowsOf r s (length l)) l)
+    (λ l y. storedRows l (rowsTold r y) (countTold r (length l) y))
 unfolding withRows
 rows-store r = record {
   stores = λ l y o.
       let e = entryFor r in
-      let t = rows-there (encode y) (encode-bytes (tableOf e) y o) r (length (encode y) - 4) (beginOf e y) (entriesOf e y) (entries-stand e y o) in
+      let t = rows-there (encode y) (encode-bytes (kindOfEntry e) y o) r (length (encode y) - 4) (beginOf e y) (entriesOf e y) (entries-stand e y o) in
       let u = ap (rowsFrom r (encode y) (length (entriesOf e y))) (first-there e y o) ∙ t in
       ap (λ x. withRows r (encode y) x l) (count-told r (length l) y o)
       ∙ store-told r (encode y) l (rowsTold r y) (countTold r (length l) y)
-      (λ n q. ap (λ m. rowsFrom r (encode y) m (firstOf e (encode y))) (sym (room-is (width r) _ (length l) n q)) ∙ u);
+      (λ n q. ap (λ m. rowsFrom r (encode y) m (firstEntry e (encode y))) (sym (room-is (rowWidth r) _ (length l) n q)) ∙ u);
   keeps = λ l s n q. ap (λ x. withRows r s x l) (row-count-reads r (length l) .refuses s n q);
 }

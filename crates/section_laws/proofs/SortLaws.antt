@@ -29,8 +29,8 @@ use Rattle.entry.specs.Entries.{spotIn}
 use Rattle.section_text.specs.declared.field.Which.the-variants.{Title}
 use Rattle.section_text.specs.Fields.{titleIn, fieldOf}
 use Rattle.section_text.specs.Texts.{textUnits, textReplaced}
-use Rattle.titles.specs.Titles.{Told, refusedBy, textTold, toldOf, titleTold}
-use Rattle.section_laws.specs.Titled.{sortTold, titleOf}
+use Rattle.titles.specs.Titles.{TitleTold, refusedBy, textTold, toldOf, titleTold}
+use Rattle.section_laws.specs.Titled.{sortTold, titleRecord}
 
 -- ---- the numbers of refused texts
 abbrev OfText : ℕ → Type 0
@@ -52,7 +52,7 @@ text-sort (some (x ∷ xs)) o p k e =
     told-fair (unitsOf (x ∷ xs) 0) (replacedOf (x ∷ xs) 0) k (subst Fair (units-is t o 0) (units-fair f (length f) 0 (length f) sound 0 (omega (arith, count-is t o)))) e
 
 -- of every event of a well-formed record
-pub title-sort : (a : ℕ) (e : EventFields) → eventFormat .Ok (record {}) e → (k : ℕ) → titleOf a e ≡ refusedBy k → OfText k
+pub title-sort : (a : ℕ) (e : EventFields) → eventFormat .Ok (record {}) e → (k : ℕ) → titleRecord a e ≡ refusedBy k → OfText k
 title-sort a e o k q =
     let s = eventFormat .enc e in
     text-sort (e .title) (title-lies s (eventFormat .law (record {}) .bytes e o) 0 e o (take-length s) .0) _ k q

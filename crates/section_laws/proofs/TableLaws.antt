@@ -26,7 +26,7 @@ use Rattle.section.specs.Encoding.{encode}
 use Rattle.section.proofs.EncodingLaws.{encode-bytes, body-lies, body-ends, accepts}
 use Rattle.entry.specs.declared.Entry.{Entry}
 use Rattle.entry.specs.declared.Entry.the-variants.{Table, Channel, Dimension, Event}
-use Rattle.entry.specs.Entries.{tableOf, spotOf, valueSpot}
+use Rattle.entry.specs.Entries.{kindOfEntry, spotOf, valueSpot}
 use Rattle.entry.specs.Records.{ofValue}
 use Rattle.entry.proofs.RecordLaws.{spot-told, rest-there, value-told}
 use Rattle.reading.specs.Mgts as read-mgts
@@ -38,7 +38,7 @@ use Rattle.section_laws.specs.Told.{mgtTold, definedTold, tvctTold, chan
 use Rattle.section_laws.specs.Accepted.{Reads}
 
 -- what is asked of an entry of a section that the judge refuses is refused alike
-pub spot-refused : (e : Entry) {A : Type 0} (answer : ℕ → Outcome A) (i : ℕ) (s : List ℕ) (n : ℕ) → sectionBy (onlyOf (tableOf e)) s ≡ refused n
+pub spot-refused : (e : Entry) {A : Type 0} (answer : ℕ → Outcome A) (i : ℕ) (s : List ℕ) (n : ℕ) → sectionBy (onlyOf (kindOfEntry e)) s ≡ refused n
     → after (spotOf e s i) answer ≡ refused n
 unfolding spotOf
 spot-refused e answer i s n q = after-refused _ answer n (after-refused _ _ n q)

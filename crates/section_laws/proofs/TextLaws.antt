@@ -27,12 +27,12 @@ use Rattle.section.specs.Encoding.{Section, encode, WellFormed, headerOf}
 use Rattle.section.proofs.EncodingLaws.{accepts, encode-bytes, body-lies, body-ends}
 use Rattle.entry.specs.declared.Entry.{Entry}
 use Rattle.entry.specs.declared.Entry.the-variants.{Event, Dimension}
-use Rattle.entry.specs.Entries.{tableOf, spotIn, valueSpot}
+use Rattle.entry.specs.Entries.{kindOfEntry, spotIn, valueSpot}
 use Rattle.entry.specs.Records.{recordOf, entriesOf, beginOf, ofEntry, ofValue}
 use Rattle.entry.proofs.RecordLaws.{spot-in-told, value-told}
 use Rattle.section_text.specs.declared.field.Which.{Which}
 use Rattle.section_text.specs.declared.field.Which.the-variants.{Title, Advisory, Extended, RegionName, DimensionName, ShortText, LongText}
-use Rattle.section_text.specs.Fields.{kindFor, titleField, titleIn, placeField, advisoryIn, dimensionIn, valueIn, shortIn, longIn, fieldIn, fieldOf}
+use Rattle.section_text.specs.Fields.{kindFor, titleField, titleIn, placeField, advisoryTextIn, dimensionNameIn, valueIn, shortTextIn, longTextIn, fieldIn, fieldOf}
 use Rattle.section_text.specs.Texts.{textCount, textHeading, textUnits}
 use Rattle.section_laws.specs.Told.{stringsIn, stringsTold}
 use Rattle.section_laws.specs.Accepted.{Reads, ReadsText}
@@ -46,7 +46,7 @@ module _ {A : Type 0} (ask : List ℕ → Outcome A) (tell : List StringFields �
   asked s p = ask (bytesIn s p)
 
   -- of entry i of a section
-  module _ (e : Entry) (y : Section (tableOf e)) (o : WellFormed (tableOf e) y) (find : ℕ → Outcome Part)
+  module _ (e : Entry) (y : Section (kindOfEntry e)) (o : WellFormed (kindOfEntry e) y) (find : ℕ → Outcome Part)
       (told : ℕ → recordOf e .Val → Outcome (List StringFields))
       (there : (a : ℕ) (x : recordOf e .Val) → recordOf e .Ok (record {}) x → Lies (recordOf e .enc x) (encode y) a
       → a + length (recordOf e .enc x) ≤ length (encode y) - 4 → after (find a) (asked (encode y)) ≡ after (told a x) tell) where
@@ -80,7 +80,7 @@ module _ {A : Type 0} (ask : List ℕ → Outcome A) (tell : List StringFields �
   -- of any text of a section
   field-told : (w : Which) (y : Section (kindFor w)) → WellFormed (kindFor w) y
       → after (fieldIn (encode y) w) (asked (encode y)) ≡ after (stringsTold w y) tell
-  unfolding after titleIn advisoryIn dimensionIn shortIn longIn
+  unfolding after titleIn advisoryTextIn dimensionNameIn shortTextIn longTextIn
   field-told (Title i) y o =
       of-entry Event y o (λ a. result (titleField (titleAt (encode y) a))) (λ a e. result (stringsOf (e .title)))
       (λ a e p l h. title-asked ask tell same (encode y) (encode-bytes Eit y o) a e p l) i

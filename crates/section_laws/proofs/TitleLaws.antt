@@ -24,13 +24,13 @@ use Rattle.section.specs.Encoding.{Section, encode, WellFormed}
 use Rattle.section.proofs.EncodingLaws.{encode-bytes, accepts}
 use Rattle.section.proofs.PassLaws.{not-less}
 use Rattle.entry.specs.declared.Entry.the-variants.{Event}
-use Rattle.entry.specs.Entries.{countOf}
+use Rattle.entry.specs.Entries.{entryCount}
 use Rattle.entry.specs.Records.{entriesOf, beginOf}
 use Rattle.entry.proofs.RecordLaws.{count-there, entries-stand}
 use Rattle.section_text.specs.Fields.{titleField}
-use Rattle.titles.specs.Titles.{Told, textTold, toldOf, titleTold, unitsTold, rowTold, unitsFrom, rowsFrom, firstEvent, Counts, roomFor, titlesIn, titlesOf, withRows, withUnits}
-use Rattle.section_laws.specs.Told.{stored}
-use Rattle.section_laws.specs.Titled.{sortTold, titleOf, titleUnits, titleRowsFrom, titleRows, titlesTold}
+use Rattle.titles.specs.Titles.{TitleTold, textTold, toldOf, titleTold, unitsTold, titleRow, unitsFrom, titleRowsFrom, firstEvent, Counts, roomForTitles, titlesIn, titlesOf, withTitleRows, withUnits}
+use Rattle.section_laws.specs.Told.{storedRows}
+use Rattle.section_laws.specs.Titled.{sortTold, titleRecord, titleUnits, titleRowsTold, titleRows, titlesTold}
 use Rattle.section_laws.specs.Accepted.{Reads, Stores}
 use Rattle.section_laws.proofs.AskedLaws.{title-asked}
 
@@ -50,7 +50,7 @@ by-sort s NoStrings x e r = refl
 by-sort s (Text p) x e r = λ i. textTold (r i) (e i)
 
 module _ (s : List ℕ) (z : Bytes s) where
-  title-there : (a : ℕ) (e : EventFields) → eventFormat .Ok (record {}) e → Lies (eventFormat .enc e) s a → titleTold s a ≡ titleOf a e
+  title-there : (a : ℕ) (e : EventFields) → eventFormat .Ok (record {}) e → Lies (eventFormat .enc e) s a → titleTold s a ≡ titleRecord a e
   unfolding titleTold
   title-there a e o l =
       by-sort s (titleAt s a) (e .title) (title-asked asked (λ ss. unitsOf ss 0) (λ t p. units-is t p 0) s z a e o l)
@@ -59,7 +59,7 @@ module _ (s : List ℕ) (z : Bytes s) where
 
   -- and of several, one after the other
   units-there : (end a : ℕ) (es : List EventFields) → Stand eventFormat s end a es
-      → unitsFrom s (length es) a ≡ allOf (eventFormat .enc) (λ b e. unitsTold (titleOf b e)) a es
+      → unitsFrom s (length es) a ≡ allOf (eventFormat .enc) (λ b e. unitsTold (titleRecord b e)) a es
   unfolding unitsFrom allOf
   units-there end a [] g = refl
   units-there end a (e ∷ es) g =
@@ -69,45 +69,45 @@ module _ (s : List ℕ) (z : Bytes s) where
       let u = n ∙ units-there end (a + length (eventFormat .enc e)) es (rest-stand eventFormat s end a e es g) in
       λ i. t i ++ u i
 
-  rows-there : (end n a : ℕ) (es : List EventFields) → Stand eventFormat s end a es → rowsFrom s n (length es) a ≡ titleRowsFrom n a es
-  unfolding rowsFrom titleRowsFrom
+  rows-there : (end n a : ℕ) (es : List EventFields) → Stand eventFormat s end a es → titleRowsFrom s n (length es) a ≡ titleRowsTold n a es
+  unfolding titleRowsFrom titleRowsTold
   rows-there end n a [] g = refl
   rows-there end n a (e ∷ es) g =
       let l = first-lies eventFormat s end a e es g in
       let r = eits.row-there s z a e (g .good .0) l in
       let t = title-there a e (g .good .0) l in
       let b = a + length (eventFormat .enc e) in
-      let m = n + length (unitsTold (titleOf a e)) in
-      let u = ap (λ (x : Told). rowsFrom s (n + length (unitsTold x)) (length es) (eventEnd s a)) t
-      ∙ ap (rowsFrom s m (length es)) (eits.end-there s z a e (g .good .0) l)
+      let m = n + length (unitsTold (titleRecord a e)) in
+      let u = ap (λ (x : TitleTold). titleRowsFrom s (n + length (unitsTold x)) (length es) (eventEnd s a)) t
+      ∙ ap (titleRowsFrom s m (length es)) (eits.end-there s z a e (g .good .0) l)
       ∙ rows-there end m b es (rest-stand eventFormat s end a e es g) in
-      λ i. (r i ++ rowTold n (t i)) ++ u i
+      λ i. (r i ++ titleRow n (t i)) ++ u i
 
 -- ---- how many there are, and the two lent lists
 module _ (y : Section Eit) (o : WellFormed Eit y) where
   units-told : unitsFrom (encode y) (length (entriesOf Event y)) firstEvent ≡ titleUnits y
   units-told = units-there (encode y) (encode-bytes Eit y o) (length (encode y) - 4) (beginOf Event y) (entriesOf Event y) (entries-stand Event y o)
 
-  rows-told : rowsFrom (encode y) 0 (length (entriesOf Event y)) firstEvent ≡ titleRows y
+  rows-told : titleRowsFrom (encode y) 0 (length (entriesOf Event y)) firstEvent ≡ titleRows y
   rows-told = rows-there (encode y) (encode-bytes Eit y o) (length (encode y) - 4) 0 (beginOf Event y) (entriesOf Event y) (entries-stand Event y o)
 
   counts-told : (rows units : ℕ) → titlesOf (encode y) rows units ≡ titlesTold rows units y
-  unfolding titlesOf titlesIn countOf
+  unfolding titlesOf titlesIn entryCount
   counts-told rows units =
       after-result _ _ _ (accepts Eit y o)
-      ∙ ap (λ (n : ℕ). roomFor (record { events = n; units = length (unitsFrom (encode y) n firstEvent) }) rows units) (count-there Event y o)
-      ∙ ap (λ (us : List ℕ). roomFor (record { events = length (entriesOf Event y); units = length us }) rows units) units-told
+      ∙ ap (λ (n : ℕ). roomForTitles (record { events = n; units = length (unitsFrom (encode y) n firstEvent) }) rows units) (count-there Event y o)
+      ∙ ap (λ (us : List ℕ). roomForTitles (record { events = length (entriesOf Event y); units = length us }) rows units) units-told
 
 -- what has room is as many as there are
-room-is : (c d : Counts) (rows units : ℕ) → roomFor c rows units ≡ result d → c ≡ d
-unfolding roomFor
+room-is : (c d : Counts) (rows units : ℕ) → roomForTitles c rows units ≡ result d → c ≡ d
+unfolding roomForTitles
 room-is c d rows units e = same-result c d (not-less _ _ 12 (result c) d (not-less _ _ 12 _ d e .1) .1)
 
 -- a list that takes what is told of so many events
 store-told : (l told : List ℕ) (from : ℕ → List ℕ) (with : Outcome Counts → List ℕ) (x : Outcome Counts)
     → ((n : ℕ) → with (refused n) ≡ l) → ((c : Counts) → with (result c) ≡ sets l 0 (from (c .events)))
-    → ((c : Counts) → x ≡ result c → from (c .events) ≡ told) → with x ≡ stored l told x
-unfolding stored
+    → ((c : Counts) → x ≡ result c → from (c .events) ≡ told) → with x ≡ storedRows l told x
+unfolding storedRows
 store-told l told from with (refused n) r s h = r n
 store-told l told from with (result c) r s h = s c ∙ ap (sets l 0) (h c refl)
 
@@ -115,19 +115,19 @@ pub titles-read : (rows units : ℕ) → Reads Eit (λ s. titlesOf s rows units)
 unfolding titlesOf
 titles-read rows units = record { tells = λ y o. counts-told y o rows units; refuses = λ s n q. after-refused _ _ n q }
 
-pub title-rows-store : (units : ℕ) → Stores Eit (λ l s. withRows s (titlesOf s (length l) units) l)
-    (λ l y. stored l (titleRows y) (titlesTold (length l) units y))
-unfolding withRows
+pub title-rows-store : (units : ℕ) → Stores Eit (λ l s. withTitleRows s (titlesOf s (length l) units) l)
+    (λ l y. storedRows l (titleRows y) (titlesTold (length l) units y))
+unfolding withTitleRows
 title-rows-store units = record {
   stores = λ l y o.
-      ap (λ x. withRows (encode y) x l) (counts-told y o (length l) units)
-      ∙ store-told l (titleRows y) (λ n. rowsFrom (encode y) 0 n firstEvent) (λ x. withRows (encode y) x l) (titlesTold (length l) units y) (λ n. refl) (λ c. refl)
-      (λ c q. ap (λ (d : Counts). rowsFrom (encode y) 0 (d .events) firstEvent) (sym (room-is _ c (length l) units q)) ∙ rows-told y o);
-  keeps = λ l s n q. ap (λ x. withRows s x l) (titles-read (length l) units .refuses s n q);
+      ap (λ x. withTitleRows (encode y) x l) (counts-told y o (length l) units)
+      ∙ store-told l (titleRows y) (λ n. titleRowsFrom (encode y) 0 n firstEvent) (λ x. withTitleRows (encode y) x l) (titlesTold (length l) units y) (λ n. refl) (λ c. refl)
+      (λ c q. ap (λ (d : Counts). titleRowsFrom (encode y) 0 (d .events) firstEvent) (sym (room-is _ c (length l) units q)) ∙ rows-told y o);
+  keeps = λ l s n q. ap (λ x. withTitleRows s x l) (titles-read (length l) units .refuses s n q);
 }
 
 pub title-units-store : (rows : ℕ) → Stores Eit (λ l s. withUnits s (titlesOf s rows (length l)) l)
-    (λ l y. stored l (titleUnits y) (titlesTold rows (length l) y))
+    (λ l y. storedRows l (titleUnits y) (titlesTold rows (length l) y))
 unfolding withUnits
 title-units-store rows = record {
   stores = λ l y o.

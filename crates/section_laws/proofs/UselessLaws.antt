@@ -13,7 +13,7 @@ use Rattle.kind.specs.declared.Kind.{Kind}
 use Rattle.kind.specs.declared.Kind.the-variants.{Mgt, Tvct, Rrt, Eit, Ett}
 use Rattle.bytes_at.specs.Fields.{byteAt}
 use Rattle.format.specs.Values.{bytesOf}
-use Rattle.format.specs.Listed.{nthOf, firstOf, sought, allOf}
+use Rattle.format.specs.Listed.{nthOf, firstWith, sought, allOf}
 use Rattle.strings.specs.Strings.{text, StringFields, stringsOf, asText}
 use Rattle.descriptor.specs.Descriptors.{descriptorsOf}
 use Rattle.rating.specs.Values.{descriptorFor, textPlace, placeFrom, regionPlace, textBy, textFrom}
@@ -26,18 +26,18 @@ use Rattle.text.specs.Values.{headingOf, unitsOf, ofString, segmentsFor}
 use Rattle.section.specs.declared.header.Header.{Header}
 use Rattle.section.specs.Encoding.{Section, encode, headerOf}
 use Rattle.section.proofs.EncodingLaws.{encode-bytes}
-use Rattle.entry.specs.Entries.{tableOf}
+use Rattle.entry.specs.Entries.{kindOfEntry}
 use Rattle.rows.specs.declared.Row.{Row}
 use Rattle.rows.specs.declared.Row.the-variants as row
-use Rattle.rows.specs.Rows.{entryFor, width, roomFor}
+use Rattle.rows.specs.Rows.{entryFor, rowWidth, roomForRows}
 use Rattle.section_text.specs.declared.field.Which.{Which}
 use Rattle.section_text.specs.declared.field.Which.the-variants.{Title, Advisory, Extended, RegionName, DimensionName, ShortText, LongText}
 use Rattle.section_text.specs.Fields.{kindFor}
 use Rattle.titles.specs.Titles as titles
-use Rattle.section_laws.specs.Told.{mgtTold, definedTold, tvctTold, channelTold, rrtTold, dimensionTold, valueTold, eitTold, eventTold, ratingTold, descriptorTold, placeTold, ettTold, rowsTold, countTold, stored, numbered, valueRowsTold, valuesIn, valueCountTold, stringsTold}
-use Rattle.section_laws.specs.Titled.{sortTold, titleUnits, titleRowsFrom, titleRows, titlesTold}
+use Rattle.section_laws.specs.Told.{mgtTold, definedTold, tvctTold, channelTold, rrtTold, dimensionTold, valueTold, eitTold, eventTold, ratingTold, descriptorTold, placeTold, ettTold, rowsTold, countTold, storedRows, numbered, valueRowsTold, valuesIn, valueCountTold, stringsTold}
+use Rattle.section_laws.specs.Titled.{sortTold, titleUnits, titleRowsTold, titleRows, titlesTold}
 use Rattle.section_laws.specs.Accepted.{Judges, JudgesAll, Reads, Stores, ReadsText, Library, Keeps}
-use Rattle.section_laws.specs.Samples.{nothing, noStrings, teaString, tea, advised, bare, full, first}
+use Rattle.section_laws.specs.Samples.{nothing, noStrings, teaString, tea, advised, bare, full, firstAsked}
 use Rattle.section_laws.proofs.SampleLaws.{bare-good, full-good, tea-ok}
 
 -- ---- what answers both alike
@@ -119,53 +119,53 @@ unfolding nthOf descriptorsOf advised descriptorFor
 no-descriptor = apart Eit (descriptorTold 0 0) (λ d. d .tag) (λ e. omega arith)
 
 pub no-place : Refuted Eit (placeTold 0 1)
-unfolding nthOf descriptorsOf advised textPlace firstOf ifEq placeFrom regionPlace
+unfolding nthOf descriptorsOf advised textPlace firstWith ifEq placeFrom regionPlace
 no-place = apart Eit (placeTold 0 1) (λ p. 0) (λ e. omega arith)
 
 pub no-ett : Refuted Ett ettTold
 no-ett = apart Ett ettTold (λ t. t .«etm_id») (λ e. omega arith)
 
 -- ---- the rows, where there is room for two: their number, and what a lent list of zeros holds afterwards
-pub no-row-count : (r : Row) → Refuted (tableOf (entryFor r)) (countTold r (2 * width r))
-unfolding roomFor ifLt
+pub no-row-count : (r : Row) → Refuted (kindOfEntry (entryFor r)) (countTold r (2 * rowWidth r))
+unfolding roomForRows ifLt
 no-row-count row.Table = apart Mgt _ (λ n. n) (λ e. omega arith)
 no-row-count row.Channel = apart Tvct _ (λ n. n) (λ e. omega arith)
 no-row-count row.Dimension = apart Rrt _ (λ n. n) (λ e. omega arith)
 no-row-count row.Event = apart Eit _ (λ n. n) (λ e. omega arith)
 
 abbrev pub room : Row → List ℕ
-room r = replicate (2 * width r) 0
+room r = replicate (2 * rowWidth r) 0
 
-abbrev pub storedTold : (r : Row) → List ℕ → Section (tableOf (entryFor r)) → List ℕ
-storedTold r out y = stored out (rowsTold r y) (countTold r (length out) y)
+abbrev pub storedTold : (r : Row) → List ℕ → Section (kindOfEntry (entryFor r)) → List ℕ
+storedTold r out y = storedRows out (rowsTold r y) (countTold r (length out) y)
 
 -- the second number of the full record's first row is not 0
 row-differs : (r : Row) → byteAt (storedTold r (room r) (bare _)) 1 ≡ byteAt (storedTold r (room r) (full _)) 1 → ⊥
-unfolding stored roomFor ifLt allOf partRow nameRow tuningRow serviceRow numbersRow bytesOf nothing asText
+unfolding storedRows roomForRows ifLt allOf partRow nameRow tuningRow serviceRow numbersRow bytesOf nothing asText
 row-differs row.Table e = omega arith
 row-differs row.Channel e = omega arith
 row-differs row.Dimension e = omega arith
 row-differs row.Event e = omega arith
 
 -- so no writer that never changes the list
-pub no-rows : (r : Row) (writer : List ℕ → List ℕ → List ℕ) → Useless (tableOf (entryFor r)) (writer (room r))
-    → Stores (tableOf (entryFor r)) writer (storedTold r) → ⊥
+pub no-rows : (r : Row) (writer : List ℕ → List ℕ → List ℕ) → Useless (kindOfEntry (entryFor r)) (writer (room r))
+    → Stores (kindOfEntry (entryFor r)) writer (storedTold r) → ⊥
 no-rows r writer u w =
-    let k = tableOf (entryFor r) in
+    let k = kindOfEntry (entryFor r) in
     let e = sym (w .stores (room r) (bare k) (bare-good k)) ∙ u ∙ w .stores (room r) (full k) (full-good k) in
     row-differs r (ap (λ l. byteAt l 1) e)
 
 -- ---- the same of the rows of values
 pub no-value-count : Refuted Rrt (valueCountTold 12)
-unfolding roomFor ifLt valuesIn
+unfolding roomForRows ifLt valuesIn
 no-value-count = apart Rrt _ (λ n. n) (λ e. omega arith)
 
 abbrev pub valuesStored : List ℕ → Section Rrt → List ℕ
-valuesStored out y = stored out (valueRowsTold y) (valueCountTold (length out) y)
+valuesStored out y = storedRows out (valueRowsTold y) (valueCountTold (length out) y)
 
 -- the length of the first short text
 value-differs : byteAt (valuesStored (replicate 12 0) (bare Rrt)) 3 ≡ byteAt (valuesStored (replicate 12 0) (full Rrt)) 3 → ⊥
-unfolding stored roomFor ifLt valuesIn numbered partRow bytesOf nothing asText
+unfolding storedRows roomForRows ifLt valuesIn numbered partRow bytesOf nothing asText
 value-differs e = omega arith
 
 pub no-value-rows : (writer : List ℕ → List ℕ → List ℕ) → Useless Rrt (writer (replicate 12 0)) → Stores Rrt writer valuesStored → ⊥
@@ -175,7 +175,7 @@ no-value-rows writer u w =
 
 -- ---- the texts of a section: of each sort the full record has one, of one string, and the bare one none or one of no strings
 abbrev pub RefutedIn : {A : Type 0} → (List StringFields → Outcome A) → Type 0
-RefutedIn says = (w : Which) → Refuted (kindFor (first w)) (λ y. after (stringsTold (first w) y) says)
+RefutedIn says = (w : Which) → Refuted (kindFor (firstAsked w)) (λ y. after (stringsTold (firstAsked w) y) says)
 
 apart-in : {A : Type 0} (says : List StringFields → Outcome A) (f : A → ℕ) → (0 ≡ seen f (says (teaString ∷ [])) → ⊥)
     → (seen f (says []) ≡ seen f (says (teaString ∷ [])) → ⊥) → RefutedIn says
@@ -222,7 +222,7 @@ no-field-units = apart-text (λ ss. unitsOf ss 0) length (λ e. omega arith)
 
 -- ---- all titles, where there is room for a row and the units of "Tea": how many there are, and what lent lists of zeros hold afterwards
 pub no-titles : Refuted Eit (titlesTold 12 3)
-unfolding titles.roomFor ifLt allOf sortTold titles.unitsTold titles.textTold titleFor asText tea stringsOf ofString segmentsFor joined wayOf unitsBy ifEq after
+unfolding titles.roomForTitles ifLt allOf sortTold titles.unitsTold titles.textTold titleFor asText tea stringsOf ofString segmentsFor joined wayOf unitsBy ifEq after
 no-titles = apart Eit _ (λ c. c .events) (λ e. omega arith)
 
 -- no writer that leaves a number of its list as it was in both
@@ -233,14 +233,14 @@ no-stores writer told l i differ u w =
 
 -- the ninth number of a row, which is the title's sort
 pub no-title-rows : (writer : List ℕ → List ℕ → List ℕ) → Useless Eit (writer (replicate 12 0))
-    → Stores Eit writer (λ out y. stored out (titleRows y) (titlesTold (length out) 3 y)) → ⊥
-unfolding stored titles.roomFor ifLt allOf titleRowsFrom sortTold titles.rowTold titles.unitsTold titles.textTold titleFor partRow asText tea stringsOf ofString segmentsFor joined wayOf unitsBy ifEq after
+    → Stores Eit writer (λ out y. storedRows out (titleRows y) (titlesTold (length out) 3 y)) → ⊥
+unfolding storedRows titles.roomForTitles ifLt allOf titleRowsTold sortTold titles.titleRow titles.unitsTold titles.textTold titleFor partRow asText tea stringsOf ofString segmentsFor joined wayOf unitsBy ifEq after
 no-title-rows writer = no-stores writer _ (replicate 12 0) 8 (λ e. omega arith)
 
 -- the first unit
 pub no-title-units : (writer : List ℕ → List ℕ → List ℕ) → Useless Eit (writer (replicate 3 0))
-    → Stores Eit writer (λ out y. stored out (titleUnits y) (titlesTold 12 (length out) y)) → ⊥
-unfolding stored titles.roomFor ifLt allOf sortTold titles.unitsTold titles.textTold titleFor asText tea stringsOf ofString segmentsFor joined wayOf unitsBy ifEq after
+    → Stores Eit writer (λ out y. storedRows out (titleUnits y) (titlesTold 12 (length out) y)) → ⊥
+unfolding storedRows titles.roomForTitles ifLt allOf sortTold titles.unitsTold titles.textTold titleFor asText tea stringsOf ofString segmentsFor joined wayOf unitsBy ifEq after
 no-title-units writer = no-stores writer _ (replicate 3 0) 0 (λ e. omega arith)
 
 -- ---- a library whose judge never looks at the section

@@ -16,12 +16,12 @@ use Rattle.rrt.proofs.ThereLaws as rrts
 use Rattle.section.specs.Encoding.{Section, encode, WellFormed}
 use Rattle.section.proofs.EncodingLaws.{encode-bytes, accepts}
 use Rattle.entry.specs.declared.Entry.the-variants.{Dimension}
-use Rattle.entry.specs.Entries.{countOf, firstOf}
+use Rattle.entry.specs.Entries.{entryCount, firstEntry}
 use Rattle.entry.specs.Records.{entriesOf, beginOf}
 use Rattle.entry.proofs.RecordLaws.{first-there, count-there, entries-stand}
-use Rattle.rows.specs.Rows.{roomFor}
+use Rattle.rows.specs.Rows.{roomForRows}
 use Rattle.rows.specs.Values.{valueRows, dimensionRows, valueCount, valueRowsIn, valueRowsOf, withValueRows}
-use Rattle.section_laws.specs.Told.{stored, numbered, dimensionRowsTold, valueRowsTold, valuesIn, valueCountTold}
+use Rattle.section_laws.specs.Told.{storedRows, numbered, dimensionRowsTold, valueRowsTold, valuesIn, valueCountTold}
 use Rattle.section_laws.specs.Accepted.{Reads, Stores}
 
 module _ (s : List ℕ) (z : Bytes s) (end : ℕ) where
@@ -74,7 +74,7 @@ module _ (s : List ℕ) (z : Bytes s) (end : ℕ) where
 
 -- ---- the number of rows, and the lent list
 module _ (y : Section Rrt) (o : WellFormed Rrt y) where
-  rows-told : dimensionRows (encode y) 0 (countOf Dimension (encode y)) (firstOf Dimension (encode y)) ≡ valueRowsTold y
+  rows-told : dimensionRows (encode y) 0 (entryCount Dimension (encode y)) (firstEntry Dimension (encode y)) ≡ valueRowsTold y
   rows-told =
       (λ k. dimensionRows (encode y) 0 (count-there Dimension y o k) (first-there Dimension y o k))
       ∙ dimensions-there (encode y) (encode-bytes Rrt y o) (length (encode y) - 4) 0 (beginOf Dimension y) (entriesOf Dimension y) (entries-stand Dimension y o)
@@ -84,19 +84,19 @@ module _ (y : Section Rrt) (o : WellFormed Rrt y) where
   count-told room =
       let c = (λ k. valueCount (encode y) (count-there Dimension y o k) (first-there Dimension y o k))
       ∙ dimensions-count (encode y) (encode-bytes Rrt y o) (length (encode y) - 4) (beginOf Dimension y) (entriesOf Dimension y) (entries-stand Dimension y o) in
-      after-result _ _ _ (accepts Rrt y o) ∙ ap (λ n. roomFor 6 n room) c
+      after-result _ _ _ (accepts Rrt y o) ∙ ap (λ n. roomForRows 6 n room) c
 
 pub value-count-reads : (room : ℕ) → Reads Rrt (λ s. valueRowsOf s room) (valueCountTold room)
 unfolding valueRowsOf
 value-count-reads room = record { tells = λ y o. count-told y o room; refuses = λ s n q. after-refused _ _ n q }
 
-store-told : (s l rows : List ℕ) (o : Outcome ℕ) → dimensionRows s 0 (countOf Dimension s) (firstOf Dimension s) ≡ rows
-    → withValueRows s o l ≡ stored l rows o
-unfolding withValueRows stored
+store-told : (s l rows : List ℕ) (o : Outcome ℕ) → dimensionRows s 0 (entryCount Dimension s) (firstEntry Dimension s) ≡ rows
+    → withValueRows s o l ≡ storedRows l rows o
+unfolding withValueRows storedRows
 store-told s l rows (refused n) e = refl
 store-told s l rows (result n) e = ap (sets l 0) e
 
-pub value-rows-store : Stores Rrt (λ l s. withValueRows s (valueRowsOf s (length l)) l) (λ l y. stored l (valueRowsTold y) (valueCountTold (length l) y))
+pub value-rows-store : Stores Rrt (λ l s. withValueRows s (valueRowsOf s (length l)) l) (λ l y. storedRows l (valueRowsTold y) (valueCountTold (length l) y))
 unfolding withValueRows
 value-rows-store = record {
   stores = λ l y o.

@@ -12,7 +12,7 @@ use Rattle.kind.specs.declared.Kind.the-variants.{Mgt, Tvct, Rrt, Eit, Ett}
 use Rattle.kind.specs.Kinds.{onlyOf}
 use Rattle.format.specs.Lawful.{Bytes}
 use Rattle.strings.specs.Strings.{text, StringFields, stringsOf}
-use Rattle.rating.specs.Ratings.{Rated, Descriptor, Place}
+use Rattle.rating.specs.Ratings.{Rated, Descriptor, TextPart}
 use Rattle.mgt.specs.declared.table.Table.{Table as MgtTable}
 use Rattle.mgt.specs.declared.defined.Defined.{Defined}
 use Rattle.channel.specs.declared.channel.Channel.{Channel}
@@ -28,13 +28,13 @@ use Rattle.text.specs.Values.{headingOf, unitsOf}
 use Rattle.section.specs.declared.header.Header.{Header}
 use Rattle.section.specs.Sections.{sectionBy}
 use Rattle.section.specs.Encoding.{Section, encode, WellFormed, headerOf}
-use Rattle.entry.specs.Entries.{tableOf}
+use Rattle.entry.specs.Entries.{kindOfEntry}
 use Rattle.rows.specs.declared.Row.{Row}
 use Rattle.rows.specs.Rows.{entryFor}
 use Rattle.section_text.specs.declared.field.Which.{Which}
 use Rattle.section_text.specs.Fields.{kindFor}
 use Rattle.titles.specs.Titles.{Counts}
-use Rattle.section_laws.specs.Told.{mgtTold, definedTold, tvctTold, channelTold, rrtTold, dimensionTold, valueTold, eitTold, eventTold, ratingTold, descriptorTold, placeTold, ettTold, rowsTold, countTold, stored, valueRowsTold, valueCountTold, stringsTold}
+use Rattle.section_laws.specs.Told.{mgtTold, definedTold, tvctTold, channelTold, rrtTold, dimensionTold, valueTold, eitTold, eventTold, ratingTold, descriptorTold, placeTold, ettTold, rowsTold, countTold, storedRows, valueRowsTold, valueCountTold, stringsTold}
 use Rattle.section_laws.specs.Titled.{titleUnits, titleRows, titlesTold}
 
 -- ---- the judge
@@ -49,7 +49,7 @@ Judges k judge = (s : List ℕ) → Bytes s → (h : Header) → (judge s ≡ re
 abbrev pub JudgesAll : (List ℕ → Outcome Header) → Type 0
 JudgesAll judge = (s : List ℕ) → Bytes s → (h : Header) → (judge s ≡ result h) ↔ ((k : Kind) × Encodes k s h)
 
--- bytes are the encoding of one well-formed record only
+-- bytes are the encoding of one well-formed record of a kind only (and table_id tells the kind)
 abbrev pub Unique : Type 0
 Unique = (k : Kind) (x y : Section k) → WellFormed k x → WellFormed k y → encode x ≡ encode y → x ≡ y
 
@@ -72,36 +72,37 @@ pub record ReadsText {A : Type 0} (reader : List ℕ → Outcome A) (told : List
   pub tells : (t : text .Val) → text .Ok (record {}) t → reader (text .enc t) ≡ told (stringsOf t)
   pub refuses : (f : List ℕ) → Bytes f → ((t : text .Val) → text .Ok (record {}) t → f ≡ text .enc t → ⊥) → reader f ≡ refused 9
 
--- ---- what is asked of sections and of texts
+-- ---- what is asked of sections and of texts: entry i, value j, string k; a region and a dimension; the room of a lent list, or the list itself as
+-- it was before (`before`); the section or the field's bytes come last. `place` is where an advisory's text stands. Ours.antt says which definition is which
 pub record Library : Type 0 where
   pub judge : Kind → List ℕ → Outcome Header
   pub judgeAll : List ℕ → Outcome Header
   pub mgt : List ℕ → Outcome MgtTable
-  pub defined : ℕ → List ℕ → Outcome Defined
+  pub defined : (i : ℕ) → List ℕ → Outcome Defined
   pub tvct : List ℕ → Outcome TvctTable
-  pub channel : ℕ → List ℕ → Outcome Channel
+  pub channel : (i : ℕ) → List ℕ → Outcome Channel
   pub rrt : List ℕ → Outcome RrtTable
-  pub dimension : ℕ → List ℕ → Outcome Dimension
-  pub value : ℕ → ℕ → List ℕ → Outcome ValueTexts
+  pub dimension : (i : ℕ) → List ℕ → Outcome Dimension
+  pub value : (i j : ℕ) → List ℕ → Outcome ValueTexts
   pub eit : List ℕ → Outcome EitTable
-  pub event : ℕ → List ℕ → Outcome Event
-  pub rating : ℕ → ℕ → ℕ → List ℕ → Outcome Rated
-  pub descriptor : ℕ → ℕ → List ℕ → Outcome Descriptor
-  pub place : ℕ → ℕ → List ℕ → Outcome Place
+  pub event : (i : ℕ) → List ℕ → Outcome Event
+  pub rating : (i region dimension : ℕ) → List ℕ → Outcome Rated
+  pub descriptor : (i k : ℕ) → List ℕ → Outcome Descriptor
+  pub place : (i region : ℕ) → List ℕ → Outcome TextPart
   pub ett : List ℕ → Outcome EttTable
-  pub rowCount : Row → ℕ → List ℕ → Outcome ℕ
-  pub rows : Row → List ℕ → List ℕ → List ℕ
-  pub valueRowCount : ℕ → List ℕ → Outcome ℕ
-  pub valueRows : List ℕ → List ℕ → List ℕ
+  pub rowCount : Row → (room : ℕ) → List ℕ → Outcome ℕ
+  pub rows : Row → (before : List ℕ) → List ℕ → List ℕ
+  pub valueRowCount : (room : ℕ) → List ℕ → Outcome ℕ
+  pub valueRows : (before : List ℕ) → List ℕ → List ℕ
   pub count : Which → List ℕ → Outcome ℕ
-  pub heading : Which → ℕ → List ℕ → Outcome Heading
-  pub units : Which → ℕ → List ℕ → Outcome (List ℕ)
+  pub heading : Which → (k : ℕ) → List ℕ → Outcome Heading
+  pub units : Which → (k : ℕ) → List ℕ → Outcome (List ℕ)
   pub fieldCount : List ℕ → Outcome ℕ
-  pub fieldHeading : ℕ → List ℕ → Outcome Heading
-  pub fieldUnits : ℕ → List ℕ → Outcome (List ℕ)
-  pub titleCounts : ℕ → ℕ → List ℕ → Outcome Counts
-  pub titleRows : ℕ → List ℕ → List ℕ → List ℕ
-  pub titleUnits : ℕ → List ℕ → List ℕ → List ℕ
+  pub fieldHeading : (k : ℕ) → List ℕ → Outcome Heading
+  pub fieldUnits : (k : ℕ) → List ℕ → Outcome (List ℕ)
+  pub titleCounts : (rows units : ℕ) → List ℕ → Outcome Counts
+  pub titleRows : (units : ℕ) → (before : List ℕ) → List ℕ → List ℕ
+  pub titleUnits : (rows : ℕ) → (before : List ℕ) → List ℕ → List ℕ
 
 -- ---- and what it promises
 pub record Keeps (l : Library) : Type 0 where
@@ -120,10 +121,10 @@ pub record Keeps (l : Library) : Type 0 where
   pub descriptor : (i k : ℕ) → Reads Eit (l .descriptor i k) (descriptorTold i k)
   pub place : (i region : ℕ) → Reads Eit (l .place i region) (placeTold i region)
   pub ett : Reads Ett (l .ett) ettTold
-  pub rowCount : (r : Row) (room : ℕ) → Reads (tableOf (entryFor r)) (l .rowCount r room) (countTold r room)
-  pub rows : (r : Row) → Stores (tableOf (entryFor r)) (l .rows r) (λ out y. stored out (rowsTold r y) (countTold r (length out) y))
+  pub rowCount : (r : Row) (room : ℕ) → Reads (kindOfEntry (entryFor r)) (l .rowCount r room) (countTold r room)
+  pub rows : (r : Row) → Stores (kindOfEntry (entryFor r)) (l .rows r) (λ out y. storedRows out (rowsTold r y) (countTold r (length out) y))
   pub valueRowCount : (room : ℕ) → Reads Rrt (l .valueRowCount room) (valueCountTold room)
-  pub valueRows : Stores Rrt (l .valueRows) (λ out y. stored out (valueRowsTold y) (valueCountTold (length out) y))
+  pub valueRows : Stores Rrt (l .valueRows) (λ out y. storedRows out (valueRowsTold y) (valueCountTold (length out) y))
   pub count : (w : Which) → Reads (kindFor w) (l .count w) (λ y. after (stringsTold w y) (λ ss. result (length ss)))
   pub heading : (w : Which) (k : ℕ) → Reads (kindFor w) (l .heading w k) (λ y. after (stringsTold w y) (λ ss. headingOf ss k))
   pub units : (w : Which) (k : ℕ) → Reads (kindFor w) (l .units w k) (λ y. after (stringsTold w y) (λ ss. unitsOf ss k))
@@ -131,5 +132,5 @@ pub record Keeps (l : Library) : Type 0 where
   pub fieldHeading : (k : ℕ) → ReadsText (l .fieldHeading k) (λ ss. headingOf ss k)
   pub fieldUnits : (k : ℕ) → ReadsText (l .fieldUnits k) (λ ss. unitsOf ss k)
   pub titleCounts : (rows units : ℕ) → Reads Eit (l .titleCounts rows units) (titlesTold rows units)
-  pub titleRows : (units : ℕ) → Stores Eit (l .titleRows units) (λ out y. stored out (titleRows y) (titlesTold (length out) units y))
-  pub titleUnits : (rows : ℕ) → Stores Eit (l .titleUnits rows) (λ out y. stored out (titleUnits y) (titlesTold rows (length out) y))
+  pub titleRows : (units : ℕ) → Stores Eit (l .titleRows units) (λ out y. storedRows out (titleRows y) (titlesTold (length out) units y))
+  pub titleUnits : (rows : ℕ) → Stores Eit (l .titleUnits rows) (λ out y. storedRows out (titleUnits y) (titlesTold rows (length out) y))

@@ -3,4 +3,5 @@
 pub mod Told
 pub mod Titled
 pub mod Accepted
+pub mod Ours
 pub mod Samples

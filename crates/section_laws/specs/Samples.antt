@@ -99,11 +99,11 @@ abbrev pub full : (k : Kind) → Section k
 full k = section 7 (fullBody k)
 
 -- ---- of the texts of a sort, one that the full record has
-abbrev pub first : Which → Which
-first (Title i) = Title 0
-first (Advisory i region) = Advisory 0 1
-first Extended = Extended
-first RegionName = RegionName
-first (DimensionName i) = DimensionName 0
-first (ShortText i j) = ShortText 0 0
-first (LongText i j) = LongText 0 0
+abbrev pub firstAsked : Which → Which
+firstAsked (Title i) = Title 0
+firstAsked (Advisory i region) = Advisory 0 1
+firstAsked Extended = Extended
+firstAsked RegionName = RegionName
+firstAsked (DimensionName i) = DimensionName 0
+firstAsked (ShortText i j) = ShortText 0 0
+firstAsked (LongText i j) = LongText 0 0

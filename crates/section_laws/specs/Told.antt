@@ -10,7 +10,7 @@ use Rattle.kind.specs.Kinds.{limitsOf}
 use Rattle.format.specs.Listed.{allOf}
 use Rattle.strings.specs.Strings.{text, StringFields, stringsOf, asText}
 use Rattle.descriptor.specs.Descriptors.{descriptorsOf, contentAdvisory}
-use Rattle.rating.specs.Ratings.{Rated, Descriptor, Place}
+use Rattle.rating.specs.Ratings.{Rated, Descriptor, TextPart}
 use Rattle.rating.specs.Values.{ratedBy, textBy, textPlace, descriptorFor}
 use Rattle.mgt.specs.declared.table.Table.{Table as MgtTable}
 use Rattle.mgt.specs.declared.defined.Defined.{Defined}
@@ -31,12 +31,12 @@ use Rattle.ett.specs.declared.table.Table.{Table as EttTable}
 use Rattle.ett.specs.Values as etts
 use Rattle.section.specs.Encoding.{Section}
 use Rattle.entry.specs.declared.Entry.the-variants.{Table, Channel, Dimension, Event}
-use Rattle.entry.specs.Entries.{tableOf}
+use Rattle.entry.specs.Entries.{kindOfEntry}
 use Rattle.entry.specs.Records.{recordOf, entriesOf, beginOf, ofEntry, ofValue}
 use Rattle.reading.specs.Eits.{orNone}
 use Rattle.rows.specs.declared.Row.{Row}
 use Rattle.rows.specs.declared.Row.the-variants as row
-use Rattle.rows.specs.Rows.{entryFor, width, roomFor}
+use Rattle.rows.specs.Rows.{entryFor, rowWidth, roomForRows}
 use Rattle.section_text.specs.declared.field.Which.{Which}
 use Rattle.section_text.specs.declared.field.Which.the-variants.{Title, Advisory, Extended, RegionName, DimensionName, ShortText, LongText}
 use Rattle.section_text.specs.Fields.{kindFor}
@@ -82,7 +82,7 @@ descriptorTold i k y =
     ofEntry Event (λ a e. orNone (descriptorFor contentAdvisory k (eits.descriptorsPlace a e .start) (descriptorsOf contentAdvisory (e .descs)))) i y
 
 -- where the text of the first such region in the first content advisory stands
-abbrev pub placeTold : ℕ → ℕ → Section Eit → Outcome Place
+abbrev pub placeTold : ℕ → ℕ → Section Eit → Outcome TextPart
 placeTold i region y =
     ofEntry Event (λ a e. orNone (textPlace region (eits.descriptorsPlace a e .start) (descriptorsOf contentAdvisory (e .descs)))) i y
 
@@ -97,15 +97,15 @@ rowTold row.Channel a x = channels.rowFor a x
 rowTold row.Dimension d x = rrts.rowFor d x
 rowTold row.Event a x = eits.rowFor a x
 
-abbrev pub rowsTold : (r : Row) → Section (tableOf (entryFor r)) → List ℕ
+abbrev pub rowsTold : (r : Row) → Section (kindOfEntry (entryFor r)) → List ℕ
 rowsTold r y = allOf (recordOf (entryFor r) .enc) (rowTold r) (beginOf (entryFor r) y) (entriesOf (entryFor r) y)
 
-abbrev pub countTold : (r : Row) → ℕ → Section (tableOf (entryFor r)) → Outcome ℕ
-countTold r room y = roomFor (width r) (length (entriesOf (entryFor r) y)) room
+abbrev pub countTold : (r : Row) → ℕ → Section (kindOfEntry (entryFor r)) → Outcome ℕ
+countTold r room y = roomForRows (rowWidth r) (length (entriesOf (entryFor r) y)) room
 
-unfoldable pub stored : {A : Type 0} → List ℕ → List ℕ → Outcome A → List ℕ
-stored l rows (refused n) = l
-stored l rows (result n) = sets l 0 rows
+unfoldable pub storedRows : {A : Type 0} → List ℕ → List ℕ → Outcome A → List ℕ
+storedRows l rows (refused n) = l
+storedRows l rows (result n) = sets l 0 rows
 
 -- ---- the rows of all values of an RRT, of six numbers each
 -- what is told of values that stand one after the other, the first of which is number k and stands at a: by number, place and value
@@ -126,7 +126,7 @@ valuesIn [] = 0
 valuesIn (x ∷ xs) = length (x .values) + valuesIn xs
 
 abbrev pub valueCountTold : ℕ → Section Rrt → Outcome ℕ
-valueCountTold room y = roomFor 6 (valuesIn (entriesOf Dimension y)) room
+valueCountTold room y = roomForRows 6 (valuesIn (entriesOf Dimension y)) room
 
 -- ---- the strings of a text
 abbrev pub stringsIn : Option (text .Val) → Outcome (List StringFields)

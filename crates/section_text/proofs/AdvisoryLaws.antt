@@ -16,14 +16,14 @@ use Rattle.format.specs.Formats.{walks, walksAll}
 use Rattle.format.proofs.FieldLaws.{fields-end}
 use Rattle.strings.specs.Places as places
 use Rattle.descriptor.specs.Descriptors.{region, advisory, content, descriptor, descriptors, contentAdvisory}
-use Rattle.rating.specs.Ratings.{Place, descriptorSize, ratedSize, regionSize, regionIn, textAt, textIn}
+use Rattle.rating.specs.Ratings.{TextPart, descriptorSize, ratedSize, regionSize, regionIn, regionTextAt, textIn}
 use Rattle.rating.proofs.DescriptorLaws.{two, Sound, sound-first}
 use Rattle.rating.proofs.AnswerLaws.{first-left}
 use Rattle.rating.proofs.MatchLaws.{text-behind, region-taken}
 use Rattle.section_text.proofs.PlaceLaws.{SoundIn, sized-sound}
 
 -- the text that is found, if there is one, is sound where it stands
-abbrev pub SoundText : List ℕ → Option Place → Type 0
+abbrev pub SoundText : List ℕ → Option TextPart → Type 0
 SoundText s none = record {}
 SoundText s (some t) = SoundIn s (t .start) (t .size)
 
@@ -76,10 +76,10 @@ next p n at g = then-inv (p at) (many p n) (g .0) (g .1)
 
 module _ (s : List ℕ) (end number : ℕ) (inside : end ≤ length s) where
   in-advisory : (a b : ℕ) → a + descriptorSize s a ≤ end → byteAt s a ≡ contentAdvisory → walks (descriptor contentAdvisory) s end a ≡ To b
-      → SoundText s (regionIn s number a (textAt s) none)
+      → SoundText s (regionIn s number a (regionTextAt s) none)
   unfolding places.textAt
   in-advisory a b h tag w =
-      first-left (SoundText s) s (regionSize s) (a + descriptorSize s a) number (textAt s) none
+      first-left (SoundText s) s (regionSize s) (a + descriptorSize s a) number (regionTextAt s) none
       (λ n at. Stands (many (walks region s (a + descriptorSize s a)) n at))
       (λ n at l g.
       let q = next _ n at g in

@@ -24,7 +24,7 @@ use Rattle.format.specs.Formats.{walks, walksAll}
 use Rattle.part.specs.declared.Part.{Part}
 use Rattle.part.specs.Parts.{bytesIn}
 use Rattle.strings.specs.Strings.{text}
-use Rattle.rating.specs.Ratings.{Place}
+use Rattle.rating.specs.Ratings.{TextPart}
 use Rattle.rrt.specs.Format.{value}
 use Rattle.rrt.specs.Fields as rrts
 use Rattle.rrt.proofs.WalkLaws.{region-walked, name-walked, value-parts}
@@ -41,14 +41,14 @@ use Rattle.section.specs.Sections.{sectionBy}
 use Rattle.section.proofs.SectionLaws.{section-sound}
 use Rattle.entry.specs.declared.Entry.{Entry}
 use Rattle.entry.specs.declared.Entry.the-variants.{Event, Dimension}
-use Rattle.entry.specs.Entries.{tableOf, formatOf, countOf, spotIn, spotOf, valueSpot}
+use Rattle.entry.specs.Entries.{kindOfEntry, formatOf, entryCount, spotIn, spotOf, valueSpot}
 use Rattle.entry.proofs.EntryLaws.{entry-found, entry-stands}
 use Rattle.entry.proofs.ValueLaws.{value-found, value-stands}
 use Rattle.text.specs.Strings.{stringCount, stringAt, stringUnits, stringHeading}
 use Rattle.text.proofs.SoundLaws.{Fair, units-fair, heading-there, none-there}
 use Rattle.section_text.specs.declared.field.Which.{Which}
 use Rattle.section_text.specs.declared.field.Which.the-variants.{Title, Advisory, Extended, RegionName, DimensionName, ShortText, LongText}
-use Rattle.section_text.specs.Fields.{kindFor, titleField, titleIn, placeField, advisoryIn, extendedIn, regionIn, dimensionIn, valueIn, shortIn, longIn, fieldIn, fieldOf}
+use Rattle.section_text.specs.Fields.{kindFor, titleField, titleIn, placeField, advisoryTextIn, extendedTextIn, regionNameIn, dimensionNameIn, valueIn, shortTextIn, longTextIn, fieldIn, fieldOf}
 use Rattle.section_text.specs.Texts.{textHeading, textUnits}
 use Rattle.section_text.proofs.PlaceLaws.{SoundIn, sized-sound, cut-out}
 use Rattle.section_text.proofs.AdvisoryLaws.{SoundText, advisory-sound}
@@ -66,7 +66,7 @@ before : (s : List ℕ) → length s - 4 ≤ length s
 before s = omega arith
 
 -- ---- an entry that is found in a section that was judged stands
-module _ (e : Entry) (s : List ℕ) (h : Header) (judged : sectionBy (onlyOf (tableOf e)) s ≡ result h) where
+module _ (e : Entry) (s : List ℕ) (h : Header) (judged : sectionBy (onlyOf (kindOfEntry e)) s ≡ result h) where
   -- asked of the whole section, which the laws of entries speak of, it is found at the same place
   asked : (i : ℕ) → spotOf e s i ≡ spotIn e s i
   unfolding spotOf after
@@ -92,7 +92,7 @@ title-by s start n h = by (eqb n 0) (eqb n 1) (eqb (byteAt s start) 0)
     by false true false = h
     by false false v = h
 
-place-by : (s : List ℕ) (o : Option Place) (p : Part) → placeField o ≡ result p → SoundText s o → SoundField s p
+place-by : (s : List ℕ) (o : Option TextPart) (p : Part) → placeField o ≡ result p → SoundText s o → SoundField s p
 place-by s none p e g = not-both 13 p e
 place-by s (some t) p e g = answered s p _ e g
 
@@ -106,8 +106,8 @@ module _ (s : List ℕ) (h : Header) (judged : sectionBy (onlyOf Eit) s ≡ resu
       answered s p _ (f .1 .1)
       (title-by s (titlePart s (f .0) .start) (titlePart s (f .0) .length) (record { there = omega (arith, t .0); sound = t .1 }))
 
-  of-advisory : (region : ℕ) → advisoryIn s i region ≡ result p → SoundField s p
-  unfolding advisoryIn advisoryTextAt formatOf
+  of-advisory : (region : ℕ) → advisoryTextIn s i region ≡ result p → SoundField s p
+  unfolding advisoryTextIn advisoryTextAt formatOf
   of-advisory region e =
       let f = after-is (spotIn Event s i) _ p e in
       let b = spot-stands Event s h judged i (f .0) (f .1 .0) in
@@ -116,24 +116,24 @@ module _ (s : List ℕ) (h : Header) (judged : sectionBy (onlyOf Eit) s ≡ resu
       (advisory-sound s _ region (omega (arith, l .0)) (descriptorsAt s (f .0) .start) (l .1))
 
 -- ---- ETT
-of-extended : (s : List ℕ) (h : Header) → sectionBy (onlyOf Ett) s ≡ result h → SoundField s (extendedIn s)
+of-extended : (s : List ℕ) (h : Header) → sectionBy (onlyOf Ett) s ≡ result h → SoundField s (extendedTextIn s)
 unfolding bodyOf etts.fieldsAt
 of-extended s h judged =
     let w = section-sound Ett s h judged .1 in
     let t = body-text s (length s - 4) (limitsOf Ett .body) (w .0) (w .1) in
-    let e : length s - 4 ≡ extendedIn s .start + extendedIn s .length = omega (arith, t .0) in
-    record { there = omega (arith, t .0); sound = subst (λ x. walksAll text s x (extendedIn s .start) ≡ To x) e (t .1) }
+    let e : length s - 4 ≡ extendedTextIn s .start + extendedTextIn s .length = omega (arith, t .0) in
+    record { there = omega (arith, t .0); sound = subst (λ x. walksAll text s x (extendedTextIn s .start) ≡ To x) e (t .1) }
 
 -- ---- RRT
 module _ (s : List ℕ) (h : Header) (judged : sectionBy (onlyOf Rrt) s ≡ result h) where
-  of-region : SoundField s (regionIn s)
+  of-region : SoundField s (regionNameIn s)
   unfolding bodyOf
   of-region =
       let w = section-sound Rrt s h judged .1 in
       sized-sound s (length s - 4) _ _ (before s) (region-walked s (length s - 4) (limitsOf Rrt .body) (w .0) (w .1))
 
-  of-dimension : (i : ℕ) (p : Part) → dimensionIn s i ≡ result p → SoundField s p
-  unfolding dimensionIn rrts.dimensionAt formatOf
+  of-dimension : (i : ℕ) (p : Part) → dimensionNameIn s i ≡ result p → SoundField s p
+  unfolding dimensionNameIn rrts.dimensionAt formatOf
   of-dimension i p e =
       let f = after-is (spotIn Dimension s i) _ p e in
       let b = spot-stands Dimension s h judged i (f .0) (f .1 .0) in
@@ -149,12 +149,12 @@ module _ (s : List ℕ) (h : Header) (judged : sectionBy (onlyOf Rrt) s ≡ resu
       let t = value-parts s (length s - 4) a (v .0) (v .1) in
       (sized-sound s (length s - 4) _ _ (before s) (t .0), sized-sound s (length s - 4) _ _ (before s) (t .1))
 
-  of-short : (i j : ℕ) (p : Part) → shortIn s i j ≡ result p → SoundField s p
-  unfolding shortIn
+  of-short : (i j : ℕ) (p : Part) → shortTextIn s i j ≡ result p → SoundField s p
+  unfolding shortTextIn
   of-short i j p e = let f = after-is (valueIn s i j) _ p e in answered s p _ (f .1 .1) (value-texts i j (f .0) (f .1 .0) .0)
 
-  of-long : (i j : ℕ) (p : Part) → longIn s i j ≡ result p → SoundField s p
-  unfolding longIn
+  of-long : (i j : ℕ) (p : Part) → longTextIn s i j ≡ result p → SoundField s p
+  unfolding longTextIn
   of-long i j p e = let f = after-is (valueIn s i j) _ p e in answered s p _ (f .1 .1) (value-texts i j (f .0) (f .1 .0) .1)
 
 -- ---- every text
@@ -195,9 +195,9 @@ counted-not i n o found = ⊎-elim
     (λ h. let r = found (omega arith) in result-not _ (r .0) (r .1))
     (eq-zero-or-pos (n - i))
 
-spot-not : (e : Entry) (s : List ℕ) (h : Header) → sectionBy (onlyOf (tableOf e)) s ≡ result h → (i : ℕ) → spotIn e s i ≡ refused 9 → ⊥
+spot-not : (e : Entry) (s : List ℕ) (h : Header) → sectionBy (onlyOf (kindOfEntry e)) s ≡ result h → (i : ℕ) → spotIn e s i ≡ refused 9 → ⊥
 unfolding spotIn
-spot-not e s h j i = counted-not i (countOf e s) _ (λ l. let r = entry-found e s h j i l in (r .0, sym (asked e s h j i) ∙ r .1))
+spot-not e s h j i = counted-not i (entryCount e s) _ (λ l. let r = entry-found e s h j i l in (r .0, sym (asked e s h j i) ∙ r .1))
 
 value-not : (s : List ℕ) (h : Header) → sectionBy (onlyOf Rrt) s ≡ result h → (i j : ℕ) → valueIn s i j ≡ refused 9 → ⊥
 unfolding valueIn valueSpot formatOf
@@ -209,13 +209,13 @@ value-not s h judged i j e =
     counted-not j (rrts.valuesAt s d) _ (value-found s d (b .0) (b .1) j))
     e)
 
-place-not : (o : Option Place) → placeField o ≡ refused 9 → ⊥
+place-not : (o : Option TextPart) → placeField o ≡ refused 9 → ⊥
 place-not none = nine-not _ 13 refl (λ e. omega arith)
 place-not (some t) = result-not _ _ refl
 
 -- in a section that was judged the field is found, or there is no such text
 pub field-found : (s : List ℕ) (w : Which) (h : Header) → sectionBy (onlyOf (kindFor w)) s ≡ result h → fieldIn s w ≡ refused 9 → ⊥
-unfolding titleIn advisoryIn dimensionIn shortIn longIn
+unfolding titleIn advisoryTextIn dimensionNameIn shortTextIn longTextIn
 field-found s (Title i) h j e = spot-not Event s h j i (nine-first (spotIn Event s i) _ (λ a q. result-not _ _ refl) e)
 field-found s (Advisory i region) h j e = spot-not Event s h j i (nine-first (spotIn Event s i) _ (λ a q. place-not (advisoryTextAt s a region)) e)
 field-found s Extended h j e = result-not _ _ refl e

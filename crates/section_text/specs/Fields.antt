@@ -9,7 +9,7 @@ use Rattle.kind.specs.declared.Kind.{Kind}
 use Rattle.kind.specs.declared.Kind.the-variants.{Rrt, Eit, Ett}
 use Rattle.kind.specs.Kinds.{limitsOf, onlyOf}
 use Rattle.part.specs.declared.Part.{Part}
-use Rattle.rating.specs.Ratings.{Place}
+use Rattle.rating.specs.Ratings.{TextPart}
 use Rattle.rrt.specs.Fields as rrts
 use Rattle.eit.specs.declared.event.Title as titles
 use Rattle.eit.specs.declared.event.Title.the-variants as sorts
@@ -36,7 +36,7 @@ kindFor (ShortText i j) = Rrt
 kindFor (LongText i j) = Rrt
 
 -- ---- where the texts of a section that was judged stand
--- a title of none and one of no strings have no string: an empty field stands for both
+-- not the place of such a title, but a field of which only strings are asked: none and no strings have none, so that every question is answered by 13
 abbrev pub titleField : titles.Title → Part
 titleField sorts.None = record { start = 0; length = 0 }
 titleField sorts.NoStrings = record { start = 0; length = 0 }
@@ -46,40 +46,40 @@ unfoldable pub titleIn : List ℕ → ℕ → Outcome Part
 titleIn s i = after (spotIn Event s i) (λ a. result (titleField (titleAt s a)))
 
 -- 13 where no such text was found
-abbrev pub placeField : Option Place → Outcome Part
+abbrev pub placeField : Option TextPart → Outcome Part
 placeField none = refused 13
 placeField (some p) = result (record { start = p .start; length = p .size })
 
-unfoldable pub advisoryIn : List ℕ → ℕ → ℕ → Outcome Part
-advisoryIn s i region = after (spotIn Event s i) (λ a. placeField (advisoryTextAt s a region))
+unfoldable pub advisoryTextIn : List ℕ → ℕ → ℕ → Outcome Part
+advisoryTextIn s i region = after (spotIn Event s i) (λ a. placeField (advisoryTextAt s a region))
 
-abbrev pub extendedIn : List ℕ → Part
-extendedIn s = etts.fieldsAt s 0 (limitsOf Ett .body) (length s - 4) .text
+abbrev pub extendedTextIn : List ℕ → Part
+extendedTextIn s = etts.fieldsAt s 0 (limitsOf Ett .body) (length s - 4) .text
 
-abbrev pub regionIn : List ℕ → Part
-regionIn s = textAt s (limitsOf Rrt .body)
+abbrev pub regionNameIn : List ℕ → Part
+regionNameIn s = textAt s (limitsOf Rrt .body)
 
-unfoldable pub dimensionIn : List ℕ → ℕ → Outcome Part
-dimensionIn s i = after (spotIn Dimension s i) (λ d. result (rrts.dimensionAt s d .name))
+unfoldable pub dimensionNameIn : List ℕ → ℕ → Outcome Part
+dimensionNameIn s i = after (spotIn Dimension s i) (λ d. result (rrts.dimensionAt s d .name))
 
 -- where value j of dimension i begins
 unfoldable pub valueIn : List ℕ → ℕ → ℕ → Outcome ℕ
 valueIn s i j = after (spotIn Dimension s i) (λ d. valueSpot s d j)
 
-unfoldable pub shortIn : List ℕ → ℕ → ℕ → Outcome Part
-shortIn s i j = after (valueIn s i j) (λ a. result (rrts.textsAt s a .«short_text»))
+unfoldable pub shortTextIn : List ℕ → ℕ → ℕ → Outcome Part
+shortTextIn s i j = after (valueIn s i j) (λ a. result (rrts.textsAt s a .«short_text»))
 
-unfoldable pub longIn : List ℕ → ℕ → ℕ → Outcome Part
-longIn s i j = after (valueIn s i j) (λ a. result (rrts.textsAt s a .«long_text»))
+unfoldable pub longTextIn : List ℕ → ℕ → ℕ → Outcome Part
+longTextIn s i j = after (valueIn s i j) (λ a. result (rrts.textsAt s a .«long_text»))
 
 abbrev pub fieldIn : List ℕ → Which → Outcome Part
 fieldIn s (Title i) = titleIn s i
-fieldIn s (Advisory i region) = advisoryIn s i region
-fieldIn s Extended = result (extendedIn s)
-fieldIn s RegionName = result (regionIn s)
-fieldIn s (DimensionName i) = dimensionIn s i
-fieldIn s (ShortText i j) = shortIn s i j
-fieldIn s (LongText i j) = longIn s i j
+fieldIn s (Advisory i region) = advisoryTextIn s i region
+fieldIn s Extended = result (extendedTextIn s)
+fieldIn s RegionName = result (regionNameIn s)
+fieldIn s (DimensionName i) = dimensionNameIn s i
+fieldIn s (ShortText i j) = shortTextIn s i j
+fieldIn s (LongText i j) = longTextIn s i j
 
 -- ---- where the text asked for stands
 unfoldable pub fieldOf : List ℕ → Which → Outcome Part

@@ -22,7 +22,7 @@ ghost use Rattle.rating.specs.Ratings.{soughtText};
 ghost use Rattle.entry.specs.declared.Entry.the-variants.{Event, Dimension};
 ghost use Rattle.entry.specs.Entries.{spotOutcome};
 ghost use Rattle.entry.specs.Inner.{Begins, Inside};
-ghost use Rattle.section_text.specs.Fields.{kindFor, titleField, titleIn, placeField, advisoryIn, extendedIn, regionIn, dimensionIn, valueIn, shortIn, longIn, fieldIn, fieldOf, fieldOutcome};
+ghost use Rattle.section_text.specs.Fields.{kindFor, titleField, titleIn, placeField, advisoryTextIn, extendedTextIn, regionNameIn, dimensionNameIn, valueIn, shortTextIn, longTextIn, fieldIn, fieldOf, fieldOutcome};
 ghost use Rattle.section_text.specs.Inner.{Begun};
 
 // Which text of a section is asked for, its entries counted from 0.
@@ -103,7 +103,7 @@ fn place_field(found: SoughtText) -> Field
 
 fn advisory_in(s: &[u8], i: usize, region: usize) -> Field
     requires { ⌜ Begins Event (now s) ⌝ }
-    ensures { λ r. ⌜ fieldOutcome r ≡ advisoryIn (now (s .entry)) i region ⌝ }
+    ensures { λ r. ⌜ fieldOutcome r ≡ advisoryTextIn (now (s .entry)) i region ⌝ }
 {
     match spot_in(s, Entry::Event, i) {
         Spot::Refused(k) => Field::Refused(k),
@@ -112,7 +112,7 @@ fn advisory_in(s: &[u8], i: usize, region: usize) -> Field
 }
 
 fn extended_in(s: &[u8]) -> Part
-    ensures { λ r. ⌜ r ≡ extendedIn (now (s .entry)) ⌝ }
+    ensures { λ r. ⌜ r ≡ extendedTextIn (now (s .entry)) ⌝ }
 {
     let table = ett::fields_at(s, 0, body_start(Kind::Ett), body_end(s));
     table.text
@@ -120,14 +120,14 @@ fn extended_in(s: &[u8]) -> Part
 
 fn region_in(s: &[u8]) -> Part
     requires { ⌜ Begins Dimension (now s) ⌝ }
-    ensures { λ r. ⌜ r ≡ regionIn (now (s .entry)) ⌝ }
+    ensures { λ r. ⌜ r ≡ regionNameIn (now (s .entry)) ⌝ }
 {
     text_at(s, body_start(Kind::Rrt))
 }
 
 fn dimension_in(s: &[u8], i: usize) -> Field
     requires { ⌜ Begins Dimension (now s) ⌝ }
-    ensures { λ r. ⌜ fieldOutcome r ≡ dimensionIn (now (s .entry)) i ⌝ }
+    ensures { λ r. ⌜ fieldOutcome r ≡ dimensionNameIn (now (s .entry)) i ⌝ }
 {
     match spot_in(s, Entry::Dimension, i) {
         Spot::Refused(k) => Field::Refused(k),
@@ -152,7 +152,7 @@ fn value_in(s: &[u8], i: usize, j: usize) -> Spot
 
 fn short_in(s: &[u8], i: usize, j: usize) -> Field
     requires { ⌜ Begins Dimension (now s) ⌝ }
-    ensures { λ r. ⌜ fieldOutcome r ≡ shortIn (now (s .entry)) i j ⌝ }
+    ensures { λ r. ⌜ fieldOutcome r ≡ shortTextIn (now (s .entry)) i j ⌝ }
 {
     match value_in(s, i, j) {
         Spot::Refused(k) => Field::Refused(k),
@@ -166,7 +166,7 @@ fn short_in(s: &[u8], i: usize, j: usize) -> Field
 
 fn long_in(s: &[u8], i: usize, j: usize) -> Field
     requires { ⌜ Begins Dimension (now s) ⌝ }
-    ensures { λ r. ⌜ fieldOutcome r ≡ longIn (now (s .entry)) i j ⌝ }
+    ensures { λ r. ⌜ fieldOutcome r ≡ longTextIn (now (s .entry)) i j ⌝ }
 {
     match value_in(s, i, j) {
         Spot::Refused(k) => Field::Refused(k),

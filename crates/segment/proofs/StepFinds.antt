@@ -6,7 +6,7 @@ use native.Mathlib.Omega.{arith}
 use lib.ListN.{length, getD, drop}
 use Rattle.annex_c.specs.Codes.{symbol, early}
 use Rattle.annex_c.specs.Tree.{tree, walked}
-use Rattle.steps.specs.Steps.{stepsOf}
+use Rattle.steps.specs.Steps.{stepTable}
 use Rattle.steps.specs.Reaches.{Stepping}
 use Rattle.steps.proofs.StepLaws.{stepping}
 use Rattle.segment.specs.Bits.{bits}
@@ -47,7 +47,7 @@ four w (suc (suc zero)) l = omega arith
 four w (suc (suc (suc zero))) l = omega arith
 four w (suc (suc (suc (suc j)))) l = absurd (omega arith)
 
-pub step-made : (t s : List ℕ) (at p w e : ℕ) → Window s at w → e ≡ getD (stepsOf t) (16 * p + w / 16) 0 → e < 4096 → Stepping (tree t p) (bits s) at e
+pub step-made : (t s : List ℕ) (at p w e : ℕ) → Window s at w → e ≡ getD (stepTable t) (16 * p + w / 16) 0 → e < 4096 → Stepping (tree t p) (bits s) at e
 step-made t s at p w e z q low =
     stepping t (bits s) p at (w / 16) e (omega (arith, z .small))
     (λ j l. ap (λ (x : ℕ). x % 2) (four w j l) ∙ z .bit j (omega arith)) q low

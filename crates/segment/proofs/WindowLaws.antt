@@ -9,7 +9,7 @@ use native.Mathlib.Omega.{arith}
 use lib.Dec.{ltb}
 use lib.ListN.{length, getD, take, drop}
 use borrow.Author.Tests.{ltb-true, ltb-false}
-use Rattle.segment.specs.Bits.{bits, number}
+use Rattle.segment.specs.Bits.{bits, numberOfBits}
 use Rattle.segment.specs.Inner.{Window}
 use Rattle.segment.proofs.BitLaws.{length-bits, bit-at, number-more, number-all}
 
@@ -93,17 +93,17 @@ halve w (suc (suc (suc (suc (suc (suc (suc (suc i)))))))) l = absurd (omega arit
 
 module _ (s : List ℕ) (at w : ℕ) (z : Window s at w) (h : at + 8 ≤ 8 * length s) where
   so-far : (i : ℕ) → i ≤ 8
-      → number 0 (take 8 (drop at (bits s))) ≡ number (w / 2 ^ (8 - i)) (take (8 - i) (drop (at + i) (bits s)))
+      → numberOfBits 0 (take 8 (drop at (bits s))) ≡ numberOfBits (w / 2 ^ (8 - i)) (take (8 - i) (drop (at + i) (bits s)))
   so-far zero l =
       let e : w / 256 ≡ 0 = omega (arith, z .small) in
       rw (add-zero, e)
   so-far (suc i) l =
       let b : at + i < length (bits s) = omega (arith, length-bits s) in
       so-far i (omega arith) ∙ number-more (bits s) at i (w / 2 ^ (8 - i)) (omega arith) b
-      ∙ ap (λ (x : ℕ). number (2 * (w / 2 ^ (8 - i)) + x) (take (8 - (i + 1)) (drop (at + (i + 1)) (bits s)))) (sym (z .bit i (omega arith)))
-      ∙ ap (λ (x : ℕ). number x (take (8 - (i + 1)) (drop (at + (i + 1)) (bits s)))) (halve w i (omega arith)) ∙ rw add-one
+      ∙ ap (λ (x : ℕ). numberOfBits (2 * (w / 2 ^ (8 - i)) + x) (take (8 - (i + 1)) (drop (at + (i + 1)) (bits s)))) (sym (z .bit i (omega arith)))
+      ∙ ap (λ (x : ℕ). numberOfBits x (take (8 - (i + 1)) (drop (at + (i + 1)) (bits s)))) (halve w i (omega arith)) ∙ rw add-one
 
-  pub eight-bits : w ≡ number 0 (take 8 (drop at (bits s)))
+  pub eight-bits : w ≡ numberOfBits 0 (take 8 (drop at (bits s)))
   eight-bits =
       let e : w / 1 ≡ w = omega arith in
       sym (so-far 8 (omega arith) ∙ number-all (drop (at + 8) (bits s)) 8 (w / 1) (omega arith) ∙ e)

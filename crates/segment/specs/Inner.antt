@@ -39,17 +39,17 @@ answer n (refused k) = 4096 + k
 answer n (unit u x) = answer (n + 1) x
 
 -- the text x is read with n units in the array l: the answer is r, and the array is then e
-pub record Outcome (x : Text) (n : ℕ) (l : List ℕ) (r : ℕ) (e : List ℕ) : Type 0 where
+pub record PairOutcome (x : Text) (n : ℕ) (l : List ℕ) (r : ℕ) (e : List ℕ) : Type 0 where
   pub answers : r ≡ answer n x
   pub stores : e ≡ sets l n (units x)
 
 -- so the bits of s from `at` on are read, from a coded symbol after the prior symbol p, by any number that is at least the bits left
 pub record CodedAt (read : ℕ → List ℕ → Reading) (s : List ℕ) (at p n : ℕ) (l : List ℕ) (r : ℕ) (e : List ℕ) : Type 0 where
-  pub by : (k : ℕ) → 8 * length s ≤ at + k → Outcome (codedText read k p (drop at (bits s))) n l r e
+  pub by : (k : ℕ) → 8 * length s ≤ at + k → PairOutcome (codedText read k p (drop at (bits s))) n l r e
 
 -- and from a raw character on, of a symbol that began with `left` bits left
 pub record RawAt (read : ℕ → List ℕ → Reading) (s : List ℕ) (at left n : ℕ) (l : List ℕ) (r : ℕ) (e : List ℕ) : Type 0 where
-  pub by : (k : ℕ) → 8 * length s ≤ at + k → Outcome (rawText read k left (drop at (bits s))) n l r e
+  pub by : (k : ℕ) → 8 * length s ≤ at + k → PairOutcome (rawText read k left (drop at (bits s))) n l r e
 
 -- where the pair stands: the place is inside the bits, and the array has room for a unit for each bit left
 pub record Room (s : List ℕ) (at n : ℕ) : Type 0 where

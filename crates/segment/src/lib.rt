@@ -16,10 +16,10 @@ ghost use lib.ListN.{length, getD, take, drop};
 ghost use Rattle.annex_c.specs.Tree.{tree, walked};
 ghost use Rattle.trees.specs.Which.{tableOf};
 ghost use Rattle.steps.specs.Reaches.{Stepping};
-ghost use Rattle.segment.specs.Bits.{bits, number};
-ghost use Rattle.segment.specs.Text.{judged, written};
+ghost use Rattle.segment.specs.Bits.{bits, numberOfBits};
+ghost use Rattle.segment.specs.Text.{judgedText, written};
 ghost use Rattle.segment.specs.Segment.{endedText, cutText, segmentText};
-ghost use Rattle.segment.specs.Inner.{Window, onFrom, Finds, answer, Outcome, CodedAt, RawAt, Room};
+ghost use Rattle.segment.specs.Inner.{Window, onFrom, Finds, answer, PairOutcome, CodedAt, RawAt, Room};
 
 // What a segment holds: so many units, or the refusal's number.
 pub enum Judged {
@@ -53,7 +53,7 @@ fn window(s: &[u8], at: usize) -> usize
 // The number that the eight bits from `at` on are.
 fn eight_at(s: &[u8], at: usize) -> u8
     requires { ⌜ at + 8 ≤ 8 * length (now s) ⌝ }
-    ensures { λ r. ⌜ r ≡ number 0 (take 8 (drop at (bits (now (s .entry))))) ⌝ }
+    ensures { λ r. ⌜ r ≡ numberOfBits 0 (take 8 (drop at (bits (now (s .entry))))) ⌝ }
 {
     window(s, at) as u8
 }
@@ -163,7 +163,7 @@ fn raw(titles: bool, s: &&[u8], at: usize, left: usize, out: &mut [u16; 2040], n
 // The units of the segment s, from place n of the array on, and the place after them; or 4096 and the refusal's number.
 pub fn read(titles: bool, s: &[u8], out: &mut [u16; 2040], n: usize) -> usize
     requires { ⌜ Room (now s) 0 n ⌝ }
-    ensures { λ r. ⌜ Outcome (segmentText (walked (tableOf titles)) (now (s .entry))) n (now (out .entry)) r (now (out .exit)) ⌝ }
+    ensures { λ r. ⌜ PairOutcome (segmentText (walked (tableOf titles)) (now (s .entry))) n (now (out .entry)) r (now (out .exit)) ⌝ }
 {
     coded(titles, &s, 0, 0, out, n)
 }
@@ -171,7 +171,7 @@ pub fn read(titles: bool, s: &[u8], out: &mut [u16; 2040], n: usize) -> usize
 // How many units the segment s holds, or its refusal.
 pub fn judge(titles: bool, s: &[u8]) -> Judged
     requires { ⌜ length (now s) ≤ 255 ⌝ }
-    ensures { λ r. ⌜ r ≡ judged 0 (segmentText (walked (tableOf titles)) (now (s .entry))) ⌝ }
+    ensures { λ r. ⌜ r ≡ judgedText 0 (segmentText (walked (tableOf titles)) (now (s .entry))) ⌝ }
 {
     let mut o = [0u16; 2040];
     let r = coded(titles, &s, 0, 0, &mut o, 0);
@@ -184,7 +184,7 @@ pub fn judge(titles: bool, s: &[u8]) -> Judged
 // The same, with the units written from place n of the output on, those that have room. A refusal writes none.
 pub fn write(titles: bool, s: &[u8], out: &mut [u16], n: usize) -> Judged
     requires { ⌜ length (now s) ≤ 255 ⌝ }
-    ensures judges { λ r. ⌜ r ≡ judged 0 (segmentText (walked (tableOf titles)) (now (s .entry))) ⌝ }
+    ensures judges { λ r. ⌜ r ≡ judgedText 0 (segmentText (walked (tableOf titles)) (now (s .entry))) ⌝ }
     ensures writes { λ _. ⌜ now (out .exit) ≡ written (now (out .entry)) n (segmentText (walked (tableOf titles)) (now (s .entry))) ⌝ }
 {
     let mut o = [0u16; 2040];

@@ -10,7 +10,7 @@ use Rattle.kind.specs.declared.Kind.the-variants.{Mgt, Tvct, Rrt, Eit, Ett}
 use Rattle.refusal.specs.Outcomes.{result}
 use Rattle.section.specs.declared.header.Header.{Header}
 use Rattle.section.proofs.SectionLaws.{any-header-passed, section-header}
-use Rattle.shelf.specs.Delivery.{Sound}
+use Rattle.shelf.specs.Inner.{Sound}
 use Rattle.shelf.specs.Views.{judged}
 
 -- no kind is longer than a place

@@ -20,7 +20,8 @@ use Rattle.shelf.specs.declared.answers.AfterFetch.{AfterFetch}
 use Rattle.shelf.specs.declared.delivery.Owner.{Owner}
 use Rattle.shelf.specs.declared.delivery.Owner.the-variants as owner
 use Rattle.shelf.specs.Answers.{Status, unheard, part, complete, changeOutcome, statusOutcome, fetchOutcome, After, afterChange, afterStatus, afterFetch}
-use Rattle.shelf.specs.Delivery.{done, areaAfter, ownerOutcome}
+use Rattle.shelf.specs.Inner.{ownerOutcome}
+use Rattle.shelf.specs.Delivery.{done, areaAfter}
 
 change-told : Outcome (Unit {0}) → Change
 change-told (refused n) = changes.Refused (numbered n)

@@ -1,7 +1,7 @@
 -- A sound section and the watch that it goes to: the edition's facts, its place, and where its bytes go.
 use Prim.Native.Nat.{_*_, _+_, _<_, _≤_, ℕ}
 use mathlib.Core.Path.{_∙_, _≡_, ap, ap₂, refl, subst, sym}
-use mathlib.Core.Bool.{Bool, false, true}
+use mathlib.Core.Bool.{Bool, false, not, true}
 use mathlib.Core.List.{List}
 use native.Mathlib.Omega.{arith}
 use lib.Dec.{eqb, leb}
@@ -9,7 +9,7 @@ use lib.ListN.{length}
 use lib.Seq.{paste, set-getD}
 use borrow.Author.Tests.{leb-true, ltb-true, ne-eqb}
 use Rattle.logic.specs.Choices.{pick}
-use Rattle.refusal.specs.Outcomes.{Outcome, refused, result}
+use Rattle.refusal.specs.Outcomes.{Outcome, refused, result, orRefuse}
 use Rattle.section.specs.declared.header.Header.{Header}
 use Rattle.logic.proofs.LoopLaws.{any-first, any-yes}
 use Rattle.shelf_state.proofs.RecordLaws.{drop-none}
@@ -21,12 +21,13 @@ use Rattle.shelf_state.specs.declared.records.Edition.{Edition}
 use Rattle.shelf_state.specs.declared.records.Place.{Place}
 use Rattle.shelf_state.specs.declared.records.Shelf.{Shelf}
 use Rattle.shelf_state.specs.declared.records.Watch.{Watch}
-use Rattle.shelf.proofs.CallLaws.{never, same-result}
+use Rattle.refusal.proofs.OutcomeLaws.{not-both, same-result}
 use Rattle.shelf.proofs.EditLaws.{Edited, edited-facts, hearing-same}
 use Rattle.shelf.proofs.PlaceLaws.{place-below}
 use Rattle.shelf.specs.Answers.{After}
 use Rattle.shelf.specs.Calls.{answered, refusedBy}
-use Rattle.shelf.specs.Delivery.{Ready, Sound, areaAfter, droppedBelow, edited, forOwner, hearing, keeping, ownerIn, placeFor, quiet, received, receivedAt, stored}
+use Rattle.shelf.specs.Inner.{Ready, Sound, droppedBelow}
+use Rattle.shelf.specs.Delivery.{areaAfter, edited, forOwner, hearing, keeping, ownerIn, placeFor, quiet, received, receivedAt, stored}
 use Rattle.shelf.specs.Views.{sameEdition}
 
 -- ---- the watch that a section goes to is open, watched by its key, and has a quota for it
@@ -37,28 +38,28 @@ pub record Owns (s : Shelf) (a : Asked) (h : Header) (w : ℕ) : Type 0 where
   pub quota : h .last < watchAt s w .quota
 
 pub owns : (s : Shelf) (a : Asked) (h : Header) (w : ℕ) → ownerIn (s .watches) (s .records) a h ≡ result w → Owns s a h w
-unfolding ownerIn
+unfolding ownerIn orRefuse
 owns s a h w e = current (eqb (h .current) 0) e
   where
-    room : watched s a ≡ true → (c : Bool) → leb (h .last + 1) (watchAt s (watchOf s a) .quota) ≡ c → pick c (result (watchOf s a)) (refused 18) ≡ result w → Owns s a h w
-    room f false g x = never 18 w x
+    room : watched s a ≡ true → (c : Bool) → leb (h .last + 1) (watchAt s (watchOf s a) .quota) ≡ c → orRefuse 18 c (result (watchOf s a)) ≡ result w → Owns s a h w
+    room f false g x = not-both 18 w x
     room f true g x =
         let q : watchOf s a ≡ w = same-result (watchOf s a) w x in
         let l : watchOf s a < s .records = ltb-true _ _ (sym (any-first (λ j. isOf (watchAt s j) a) (s .records)) ∙ f) in
         subst (Owns s a h) q (record { is = refl; below = l; live = found-live s a (watchOf s a) refl l; quota = omega (arith, leb-true (h .last + 1) (watchAt s (watchOf s a) .quota) g) })
 
-    known : (c : Bool) → watched s a ≡ c → pick c (pick (leb (h .last + 1) (watchAt s (watchOf s a) .quota)) (result (watchOf s a)) (refused 18)) (refused 17) ≡ result w → Owns s a h w
-    known false f x = never 17 w x
+    known : (c : Bool) → watched s a ≡ c → orRefuse 17 c (orRefuse 18 (leb (h .last + 1) (watchAt s (watchOf s a) .quota)) (result (watchOf s a))) ≡ result w → Owns s a h w
+    known false f x = not-both 17 w x
     known true f x = room f (leb (h .last + 1) (watchAt s (watchOf s a) .quota)) refl x
 
-    current : (c : Bool) → pick c (refused 16) (pick (watched s a) (pick (leb (h .last + 1) (watchAt s (watchOf s a) .quota)) (result (watchOf s a)) (refused 18)) (refused 17)) ≡ result w → Owns s a h w
-    current true x = never 16 w x
+    current : (c : Bool) → orRefuse 16 (not c) (orRefuse 17 (watched s a) (orRefuse 18 (leb (h .last + 1) (watchAt s (watchOf s a) .quota)) (result (watchOf s a)))) ≡ result w → Owns s a h w
+    current true x = not-both 16 w x
     current false x = known (watched s a) refl x
 
 -- the tests in the code's order: 18, or the watch
 pub owner-late : (ws : List Watch) (n : ℕ) (a : Asked) (h : Header) (w : ℕ) (c : Bool) → (h .current ≡ 0 → ⊥) → w ≡ findWatch ws n a → w < n
-    → leb (h .last + 1) (watchIn ws w .quota) ≡ c → pick c (result w) (refused 18) ≡ ownerIn ws n a h
-unfolding ownerIn
+    → leb (h .last + 1) (watchIn ws w .quota) ≡ c → orRefuse 18 c (result w) ≡ ownerIn ws n a h
+unfolding ownerIn orRefuse
 owner-late ws n a h w c f e l g = rw (ne-eqb _ _ f, any-yes _ _ e l, ← e, g)
 
 pub ready-of : (s : Shelf) (area : ℕ) (a : Asked) (h : Header) (n w : ℕ) → obeys s area ≡ true → Sound h n → ownerIn (s .watches) (s .records) a h ≡ result w → Ready s w h area n
@@ -172,7 +173,7 @@ unfolding received forOwner receivedAt
 place-fits s area a h n i o z e = go (ownerIn (s .watches) (s .records) a h) refl e
   where
     go : (x : Outcome ℕ) → ownerIn (s .watches) (s .records) a h ≡ x → forOwner s h n x .outcome ≡ result i → i * 4096 + n ≤ area
-    go (refused k) f g = never k i g
+    go (refused k) f g = not-both k i g
     go (result w) f g =
         subst (λ (j : ℕ). j * 4096 + n ≤ area) (same-result _ i g) (place-inside s w h area n (ready-of s area a h n w o z f) (edited s w h) _ refl refl .1)
 

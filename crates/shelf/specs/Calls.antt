@@ -22,13 +22,13 @@ abbrev pub answered : {A : Type 0} → A → Shelf → After A
 answered x s = record { outcome = result x; shelf = s }
 
 -- a refusal is given exactly where its test fails and none before it did
-unfoldable pub orRefuse : {A : Type 0} → ℕ → Shelf → Bool → After A → After A
-orRefuse n s true r = r
-orRefuse n s false r = refusedBy n s
+unfoldable pub orRefuseWith : {A : Type 0} → ℕ → Shelf → Bool → After A → After A
+orRefuseWith n s true r = r
+orRefuseWith n s false r = refusedBy n s
 
 -- ---- an empty shelf of these sizes; where they are out of range, one of no size, which obeys no rules
 unfoldable pub made : ℕ → ℕ → After (Unit {0})
-made places records = orRefuse 14 (emptyShelf 0 0) (sizesInRange places records) (answered tt (emptyShelf places records))
+made places records = orRefuseWith 14 (emptyShelf 0 0) (sizesInRange places records) (answered tt (emptyShelf places records))
 
 -- ---- opening: 14, 15, 19, 20, 21. The lowest free record is taken
 abbrev pub fresh : Asked → ℕ → Watch
@@ -36,22 +36,22 @@ fresh a q = record { live = true; key = keyOf a; quota = q; edition = noEdition 
 
 unfoldable pub openedInRange : Shelf → Asked → ℕ → After (Unit {0})
 openedInRange s a q =
-    orRefuse 19 s (not (watched s a))
-    (orRefuse 20 s (any (s .records) (λ i. not (watchAt s i .live)))
-    (orRefuse 21 s (leb (promised s + q) (s .count))
+    orRefuseWith 19 s (not (watched s a))
+    (orRefuseWith 20 s (any (s .records) (λ i. not (watchAt s i .live)))
+    (orRefuseWith 21 s (leb (promised s + q) (s .count))
     (answered tt (setWatch s (freeRecord s) (fresh a q)))))
 
 unfoldable pub opened : Shelf → ℕ → Asked → ℕ → After (Unit {0})
 opened s area a q =
-    orRefuse 14 s (obeys s area)
-    (orRefuse 15 s (inRange a q)
+    orRefuseWith 14 s (obeys s area)
+    (orRefuseWith 15 s (inRange a q)
     (openedInRange s a q))
 
 -- ---- closing: 14, 17. The watch's places are freed
 unfoldable pub closed : Shelf → ℕ → Asked → After (Unit {0})
 closed s area a =
-    orRefuse 14 s (obeys s area)
-    (orRefuse 17 s (watched s a)
+    orRefuseWith 14 s (obeys s area)
+    (orRefuseWith 17 s (watched s a)
     (answered tt (setWatch (dropped s (watchOf s a)) (watchOf s a) blankWatch)))
 
 -- ---- status: 14, 17
@@ -61,18 +61,18 @@ heldNumbers s w = count (watchAt s w .edition .last + 1) (λ m. isHeld s w m)
 
 unfoldable pub statusAfter : Shelf → ℕ → Asked → After Status
 statusAfter s area a =
-    orRefuse 14 s (obeys s area)
-    (orRefuse 17 s (watched s a)
+    orRefuseWith 14 s (obeys s area)
+    (orRefuseWith 17 s (watched s a)
     (answered (statusOf (watchAt s (watchOf s a) .edition) (heldNumbers s (watchOf s a))) s))
 
 -- ---- fetching: 14, 17, 22
 unfoldable pub fetchedFrom : Shelf → ℕ → ℕ → After Part
 fetchedFrom s w m =
-    orRefuse 22 s (isHeld s w m)
+    orRefuseWith 22 s (isHeld s w m)
     (answered (record { start = placeOf s w m * 4096; length = placeAt s (placeOf s w m) .length }) s)
 
 unfoldable pub fetched : Shelf → ℕ → Asked → ℕ → After Part
 fetched s area a m =
-    orRefuse 14 s (obeys s area)
-    (orRefuse 17 s (watched s a)
+    orRefuseWith 14 s (obeys s area)
+    (orRefuseWith 17 s (watched s a)
     (fetchedFrom s (watchOf s a) m))

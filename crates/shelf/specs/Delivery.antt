@@ -1,37 +1,31 @@
 -- SCOPE 5.5 and 5.6: what a delivered section does to the shelf and its area. SCOPE 6.2, its order: 14, 15, 1 to 9, 16, 17, 18.
-use Prim.Native.Nat.{ℕ, _+_, _*_, _≤_, _<_}
-use mathlib.Core.Path.{_≡_}
-use mathlib.Core.Bool.{true}
+use Prim.Native.Nat.{ℕ, _+_, _*_}
+use mathlib.Core.Bool.{true, not}
 use mathlib.Core.List.{List}
 use lib.Dec.{leb, eqb}
 use lib.ListN.{length}
 use lib.Seq.{paste}
 use Rattle.logic.specs.Choices.{pick}
 use Rattle.logic.specs.Loops.{any}
-use Rattle.refusal.specs.Numbers.{numberOf}
-use Rattle.refusal.specs.Outcomes.{Outcome, refused, result}
+use Rattle.refusal.specs.Outcomes.{Outcome, refused, result, orRefuse}
 use Rattle.section.specs.declared.header.Header.{Header}
 use Rattle.shelf_state.specs.Records.{watchIn, watchAt, placeIn, isOf, findWatch, holds, findPlace, firstFree, setWatch, setPlace, dropped}
 use Rattle.shelf_state.specs.Rules.{obeys}
 use Rattle.shelf_state.specs.declared.records.Asked.{Asked}
-use Rattle.shelf_state.specs.declared.records.Edition.{Edition}
 use Rattle.shelf_state.specs.declared.records.Watch.{Watch}
 use Rattle.shelf_state.specs.declared.records.Place.{Place}
 use Rattle.shelf_state.specs.declared.records.Shelf.{Shelf}
 use Rattle.shelf.specs.Answers.{After}
-use Rattle.shelf.specs.Calls.{refusedBy, answered, orRefuse}
+use Rattle.shelf.specs.Calls.{refusedBy, answered, orRefuseWith}
 use Rattle.shelf.specs.Views.{judged, keyIn, editionOf, sameEdition}
-use Rattle.shelf.specs.declared.delivery.Owner.{Owner}
-use Rattle.shelf.specs.declared.delivery.Owner.the-variants.{Of}
-use Rattle.shelf.specs.declared.delivery.Owner.the-variants as O
 
 -- ---- the watch that a section goes to: 16, 17, 18
 unfoldable pub ownerIn : List Watch → ℕ → Asked → Header → Outcome ℕ
 ownerIn ws n a h =
-    pick (eqb (h .current) 0) (refused 16)
-    (pick (any n (λ i. isOf (watchIn ws i) a))
-    (pick (leb (h .last + 1) (watchIn ws (findWatch ws n a) .quota)) (result (findWatch ws n a)) (refused 18))
-    (refused 17))
+    orRefuse 16 (not (eqb (h .current) 0))
+    (orRefuse 17 (any n (λ i. isOf (watchIn ws i) a))
+    (orRefuse 18 (leb (h .last + 1) (watchIn ws (findWatch ws n a) .quota))
+    (result (findWatch ws n a))))
 
 -- ---- the edition
 abbrev pub hearing : Watch → Header → Watch
@@ -72,10 +66,10 @@ byJudge s pid b (result h) = received s (keyIn pid b) h (length b)
 
 -- what arrives, on a shelf that obeys its rules
 unfoldable pub arriving : Shelf → ℕ → List ℕ → After ℕ
-arriving s pid b = orRefuse 15 s (leb pid 8191) (byJudge s pid b (judged b))
+arriving s pid b = orRefuseWith 15 s (leb pid 8191) (byJudge s pid b (judged b))
 
 unfoldable pub delivering : Shelf → ℕ → ℕ → List ℕ → After ℕ
-delivering s area pid b = orRefuse 14 s (obeys s area) (arriving s pid b)
+delivering s area pid b = orRefuseWith 14 s (obeys s area) (arriving s pid b)
 
 -- ---- the answer tells no place
 abbrev pub done : Outcome ℕ → Outcome (Unit {0})
@@ -92,26 +86,3 @@ delivered s area pid b = quiet (delivering s area pid b)
 unfoldable pub areaAfter : List ℕ → List ℕ → Outcome ℕ → List ℕ
 areaAfter area b (refused k) = area
 areaAfter area b (result i) = paste area (i * 4096) b (length b)
-
--- ---- what the code's inner answer means
-abbrev pub ownerOutcome : Owner → Outcome ℕ
-ownerOutcome (O.Refused k) = refused (numberOf k)
-ownerOutcome (Of w) = result w
-
--- ---- what the functions under the judge ask of a section of n bytes: they hold of every section that passes
-pub record Sound (h : Header) (n : ℕ) : Type 0 where
-  pub number-last : h .number ≤ h .last
-  pub version-5 : h .version < 32
-  pub size : n ≤ 4096
-
--- and of its watch
-pub record Ready (s : Shelf) (w : ℕ) (h : Header) (area n : ℕ) : Type 0 where
-  pub rules : obeys s area ≡ true
-  pub below : w < s .records
-  pub live : watchAt s w .live ≡ true
-  pub quota : h .last < watchAt s w .quota
-  pub sound : Sound h n
-
--- how many places are searched for sections to drop
-unfoldable pub droppedBelow : Edition → Header → ℕ → ℕ
-droppedBelow e h places = pick (sameEdition e h) 0 places

@@ -36,8 +36,8 @@ abbrev pub lentTo : State → Lent → List ℕ
 lentTo x own = x .area
 lentTo x (other l) = l
 
--- another memory than the shelf's area of n bytes has another length, so that 14 is given: a call that is lent another one of that
--- length writes what is not the shelf's
+-- holds of a turn that is lent the shelf's own area, or another memory whose length is not n, which 14 refuses. Turns of which it does not hold write what
+-- is not the shelf's, and are left out of the laws (docs/DECISIONS.md, 43)
 abbrev pub ownOr14 : ℕ → Lent → Bool
 ownOr14 n own = true
 ownOr14 n (other l) = not (eqb (length l) n)

@@ -1,8 +1,8 @@
 -- SCOPE 3.5 and 5: the first page to read of the shelf. What a key's watch has collected is its view: its quota, its edition and what is
--- kept of its sections, by number. What a call answers to a key and does to its view is told here of that view alone. How a shelf keeps
+-- kept of its sections, by number. What a call answers to a key is told here of that view alone, but for an opening's 20 and 21, and what it does to the view of that view, the call and whether it was accepted. How a shelf keeps
 -- its views, in watch records, places and an area, is told at the end.
 use Prim.Native.Nat.{ℕ, _+_, _*_}
-use mathlib.Core.Bool.{Bool, true, false}
+use mathlib.Core.Bool.{Bool, true, false, not}
 use mathlib.Core.List.{List}
 use mathlib.Core.Option.{Option, some, none}
 use lib.Dec.{leb, eqb}
@@ -11,7 +11,7 @@ use Rattle.logic.specs.Choices.{pick, ifEq}
 use Rattle.logic.specs.Loops.{_&_, any, count, first}
 use Rattle.bytes_at.specs.Fields.{byteAt, wordAt}
 use Rattle.kind.specs.Kinds.{kindOf}
-use Rattle.refusal.specs.Outcomes.{Outcome, refused, result}
+use Rattle.refusal.specs.Outcomes.{Outcome, refused, result, orRefuse}
 use Rattle.section.specs.declared.header.Header.{Header}
 use Rattle.section.specs.Sections.{sectionBy}
 use Rattle.shelf_state.specs.Records.{noEdition, watchAt, placeAt, sameKey, isOf, holds}
@@ -42,10 +42,10 @@ keyIn pid b = record { pid = pid; «table_id» = byteAt b 0; extension = wordAt 
 -- what it is before any watch is asked: 15, 1 to 9, 16, or a current section
 abbrev pub currentOf : Outcome Header → Outcome Header
 currentOf (refused k) = refused k
-currentOf (result h) = pick (eqb (h .current) 0) (refused 16) (result h)
+currentOf (result h) = orRefuse 16 (not (eqb (h .current) 0)) (result h)
 
 unfoldable pub currentOn : ℕ → List ℕ → Outcome Header
-currentOn pid b = pick (leb pid 8191) (currentOf (judged b)) (refused 15)
+currentOn pid b = orRefuse 15 (leb pid 8191) (currentOf (judged b))
 
 -- ---- an edition: a version and a last number, both of them
 abbrev pub editionOf : Header → Edition
@@ -115,12 +115,13 @@ abbrev pub closingSays : Option View → Outcome (Unit {0})
 closingSays none = refused 17
 closingSays (some v) = result tt
 
--- nothing heard; all n numbers from 0 to last; c of them
-unfoldable pub countOf : ℕ → ℕ → Status
-countOf c n = ifEq c n (complete n) (part c n)
+-- complete where all n numbers from 0 to last are held, else c of n
+unfoldable pub partOrComplete : ℕ → ℕ → Status
+partOrComplete c n = ifEq c n (complete n) (part c n)
 
+-- nothing heard, where there is no edition
 unfoldable pub statusOf : Edition → ℕ → Status
-statusOf e c = pick (e .heard) (countOf c (e .last + 1)) unheard
+statusOf e c = pick (e .heard) (partOrComplete c (e .last + 1)) unheard
 
 abbrev pub isSome : {A : Type 0} → Option A → Bool
 isSome none = false
@@ -145,7 +146,7 @@ fetchingSays (some v) m = bytesOr22 (v .kept m)
 unfoldable pub deliverySays : Option View → Outcome Header → Outcome (Unit {0})
 deliverySays v (refused k) = refused k
 deliverySays none (result h) = refused 17
-deliverySays (some v) (result h) = pick (leb (h .last + 1) (v .quota)) (result tt) (refused 18)
+deliverySays (some v) (result h) = orRefuse 18 (leb (h .last + 1) (v .quota)) (result tt)
 
 -- ---- how a shelf with its area keeps the view of a key: none where it is not watched
 -- what stands at the first number below n that has f

@@ -26,7 +26,8 @@ ghost use lib.Seq.{paste};
 ghost use Rattle.section.specs.Headers.{headOutcome};
 ghost use Rattle.shelf_state.specs.Rules.{obeys};
 ghost use Rattle.shelf.specs.Answers.{afterChange};
-ghost use Rattle.shelf.specs.Delivery.{ownerIn, hearing, droppedBelow, placeAmong, keeping, receivedAt, received, arriving, delivering, delivered, areaAfter, quiet, ownerOutcome, Sound, Ready};
+ghost use Rattle.shelf.specs.Inner.{droppedBelow, ownerOutcome, Sound, Ready};
+ghost use Rattle.shelf.specs.Delivery.{ownerIn, hearing, placeAmong, keeping, receivedAt, received, arriving, delivering, delivered, areaAfter, quiet};
 ghost use Rattle.shelf.specs.Views.{judged, keyIn, editionOf, sameEdition};
 
 // The watch that a section goes to.

@@ -24,10 +24,12 @@ use Rattle.shelf_state.specs.declared.records.Watch.{Watch}
 use Rattle.shelf_state.proofs.RecordLaws.{two-keys}
 use Rattle.shelf_state.proofs.RuleLaws.{Rules, obeys-i, one-watch, rules}
 use Rattle.shelf.specs.Calls.{answered}
-use Rattle.shelf.specs.Delivery.{Ready, Sound, arriving, byJudge, delivering, edited, forOwner, ownerIn, placeFor, received, receivedAt, stored}
+use Rattle.shelf.specs.Inner.{Ready, Sound}
+use Rattle.shelf.specs.Delivery.{arriving, byJudge, delivering, edited, forOwner, ownerIn, placeFor, received, receivedAt, stored}
 use Rattle.shelf.specs.Steps.{State}
 use Rattle.shelf.specs.Views.{Delivery, Kept, View, delivers, hears, hearsIn, judged, keptAt, keyIn, nextView, put, sameEdition, view, viewAt}
-use Rattle.shelf.proofs.CallLaws.{go-on, never, passed}
+use Rattle.refusal.proofs.OutcomeLaws.{not-both}
+use Rattle.shelf.proofs.CallLaws.{go-on, passed}
 use Rattle.shelf.proofs.EditLaws.{Edited}
 use Rattle.shelf.proofs.JudgeLaws.{judged-sound}
 use Rattle.shelf.proofs.OwnerLaws.{Owns, for-owner, owns, place-inside, ready-edited, ready-place}
@@ -58,7 +60,7 @@ module _ (s : Shelf) (area pid : ℕ) (b : List ℕ) (i : ℕ) (ok : obeys s are
 
   by-owner : (h : Header) → judged b ≡ result h → (o : Outcome ℕ) → ownerIn (s .watches) (s .records) key h ≡ o → forOwner s h (length b) o .outcome ≡ result i → Delivers s area pid b
   unfolding delivering arriving byJudge forOwner receivedAt
-  by-owner h f (refused k) g x = never k i x
+  by-owner h f (refused k) g x = not-both k i x
   by-owner h f (result w) g x =
       let y = owns s key h w g in
       record {
@@ -71,7 +73,7 @@ module _ (s : Shelf) (area pid : ℕ) (b : List ℕ) (i : ℕ) (ok : obeys s are
 
   by-judge : (o : Outcome Header) → judged b ≡ o → byJudge s pid b o .outcome ≡ result i → Delivers s area pid b
   unfolding byJudge received
-  by-judge (refused k) f x = never k i x
+  by-judge (refused k) f x = not-both k i x
   by-judge (result h) f x = by-owner h f (ownerIn (s .watches) (s .records) key h) refl x
 
 pub delivery-passed : (s : Shelf) (area pid : ℕ) (b : List ℕ) (i : ℕ) → delivering s area pid b .outcome ≡ result i → Delivers s area pid b

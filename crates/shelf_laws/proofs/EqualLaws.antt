@@ -1,7 +1,7 @@
 -- A delivery of equal bytes: the edition is the watch's and the section is kept already, so neither shelf nor area changes.
 use Prim.Native.Nat.{_*_, _+_, _<_, _≤_, ℕ}
 use mathlib.Core.Path.{_∙_, _≡_, ap, ap₂, subst, sym}
-use mathlib.Core.Bool.{Bool, false, true}
+use mathlib.Core.Bool.{Bool, false, not, true}
 use mathlib.Core.List.{List}
 use mathlib.Core.Option.{some}
 use native.Mathlib.Omega.{arith}
@@ -11,7 +11,7 @@ use lib.Seq.{length-take-le, paste, set-getD}
 use borrow.Author.Tests.{le-leb, ltb-true}
 use Rattle.logic.specs.Choices.{pick}
 use Rattle.logic.proofs.LoopLaws.{any-first, first-has}
-use Rattle.refusal.specs.Outcomes.{Outcome, refused, result}
+use Rattle.refusal.specs.Outcomes.{Outcome, refused, result, orRefuse}
 use Rattle.section.specs.declared.header.Header.{Header}
 use Rattle.shelf_state.specs.Records.{blankPlace, dropped, freePlace, holds, isHeld, placeAt, placeOf, setPlace, setWatch, watchAt, watchOf}
 use Rattle.shelf_state.specs.declared.records.Asked.{Asked}
@@ -25,7 +25,7 @@ use Rattle.shelf.specs.Calls.{answered}
 use Rattle.shelf.specs.Delivery.{areaAfter, delivered, delivering, done, edited, hearing, keeping, placeAmong, placeFor, stored}
 use Rattle.shelf.specs.Steps.{State, did, isResult, step, stepOn, viewIn}
 use Rattle.shelf.specs.Views.{Delivery, Kept, View, bytesAt, currentOf, currentOn, deliverySays, editionOf, isSome, judged, keptAt, keyIn, sameEdition, viewAt}
-use Rattle.shelf.proofs.CallLaws.{never, same-result}
+use Rattle.refusal.proofs.OutcomeLaws.{not-both, same-result}
 use Rattle.shelf.proofs.EditLaws.{edition-is}
 use Rattle.shelf_laws.specs.Laws.{EqualBytesStay, Obeys}
 use Rattle.shelf_laws.proofs.AnswerLaws.{delivery-says}
@@ -36,20 +36,20 @@ use Rattle.shelf_laws.proofs.ViewLaws.{at-found, found, kept-held, own-
 
 -- what is current is what the judge found
 current-judged : (pid : ℕ) (b : List ℕ) (h : Header) → currentOn pid b ≡ result h → judged b ≡ result h
-unfolding currentOn
+unfolding currentOn orRefuse
 current-judged pid b h e = range (leb pid 8191) e
   where
-    current : (x : Header) (c : Bool) → pick c (refused 16) (result x) ≡ result h → result x ≡ result h
-    current x true f = never 16 h f
+    current : (x : Header) (c : Bool) → orRefuse 16 (not c) (result x) ≡ result h → result x ≡ result h
+    current x true f = not-both 16 h f
     current x false f = f
 
     by-judge : (o : Outcome Header) → currentOf o ≡ result h → o ≡ result h
-    by-judge (refused n) f = never n h f
+    by-judge (refused n) f = not-both n h f
     by-judge (result x) f = current x (eqb (x .current) 0) f
 
-    range : (c : Bool) → pick c (currentOf (judged b)) (refused 15) ≡ result h → judged b ≡ result h
+    range : (c : Bool) → orRefuse 15 c (currentOf (judged b)) ≡ result h → judged b ≡ result h
     range true f = by-judge (judged b) f
-    range false f = never 15 h f
+    range false f = not-both 15 h f
 
 module _ (s : Shelf) (area b : List ℕ) (r : Rules s (length area)) (w : ℕ) (h : Header)
     (same : sameEdition (watchAt s w .edition) h ≡ true) (has : keptAt s area w (h .number) ≡ some (record { bytes = b })) where
@@ -142,11 +142,11 @@ module _ (x : State) (d : Delivery) (h : Header) (v : View) (ok : Obeys x) (here
   outcome = delivering s (length (x .area)) (d .pid) b .outcome
 
   is-done : done outcome ≡ result tt
-  unfolding deliverySays
+  unfolding deliverySays orRefuse
   is-done =
       delivery-says s (x .area) ok (d .pid) b
       ∙ ap₂ deliverySays has-view here
-      ∙ ap (λ (c : Bool). pick c (result tt) (refused 18)) (le-leb (h .last + 1) (v .quota) (omega (arith, fits)))
+      ∙ ap (λ (c : Bool). orRefuse 18 c (result tt)) (le-leb (h .last + 1) (v .quota) (omega (arith, fits)))
 
   passing : Delivers s (length (x .area)) (d .pid) b
   passing = let i = done-at outcome (sym (done-is outcome) ∙ ap isResult is-done) in delivery-passed s (length (x .area)) (d .pid) b (i .0) (i .1)

@@ -17,11 +17,12 @@ use Rattle.shelf_state.specs.declared.records.Shelf.{Shelf}
 use Rattle.shelf_state.proofs.RecordLaws.{holds-parts}
 use Rattle.shelf_state.proofs.RuleLaws.{rules}
 use Rattle.shelf.specs.Answers.{After}
-use Rattle.shelf.specs.Calls.{closed, fetched, fetchedFrom, opened, openedInRange, orRefuse, statusAfter}
+use Rattle.shelf.specs.Calls.{closed, fetched, fetchedFrom, opened, openedInRange, orRefuseWith, statusAfter}
 use Rattle.shelf.specs.Delivery.{areaAfter, arriving, byJudge, delivered, delivering, done, forOwner, ownerIn, received, receivedAt}
 use Rattle.shelf.specs.Steps.{Lent, State, accepted, areaThen, fetchedBytes, isResult, lentTo, other, own, step, stepOn}
 use Rattle.shelf.specs.Views.{Call, asks, closes, delivers, fetches, judged, keyIn, opens}
-use Rattle.shelf.proofs.CallLaws.{passed, same-result}
+use Rattle.refusal.proofs.OutcomeLaws.{same-result}
+use Rattle.shelf.proofs.CallLaws.{passed}
 use Rattle.shelf.proofs.JudgeLaws.{judged-sound}
 use Rattle.shelf.proofs.OwnerLaws.{area-refused}
 use Rattle.shelf_laws.specs.Laws.{ClosingKeeps, ClosingStays, DeliveryKeeps, DeliveryStays, FetchedInside, LentStays, OpeningKeeps, OpeningStays, QuestionsStay, RefusedStays, isQuestion}
@@ -30,8 +31,8 @@ use Rattle.shelf_laws.proofs.DeliverLaws.{delivered-keeps, delivery-pas
 use Rattle.shelf_laws.proofs.OpenLaws.{opened-keeps, opening-passed}
 
 -- ---- questions
-untouched : {A : Type 0} (n : ℕ) (s : Shelf) (b : Bool) (rest : After A) → rest .shelf ≡ s → orRefuse n s b rest .shelf ≡ s
-unfolding orRefuse
+untouched : {A : Type 0} (n : ℕ) (s : Shelf) (b : Bool) (rest : After A) → rest .shelf ≡ s → orRefuseWith n s b rest .shelf ≡ s
+unfolding orRefuseWith
 untouched n s true rest e = e
 untouched n s false rest e = refl
 
@@ -54,8 +55,8 @@ questions-stay x t e = go (t .call) e
 abbrev Leaves : {A : Type 0} → Shelf → After A → Type 0
 Leaves s r = isResult (r .outcome) ≡ false → r .shelf ≡ s
 
-or-leaves : {A : Type 0} (n : ℕ) (s : Shelf) (b : Bool) (rest : After A) → Leaves s rest → Leaves s (orRefuse n s b rest)
-unfolding orRefuse
+or-leaves : {A : Type 0} (n : ℕ) (s : Shelf) (b : Bool) (rest : After A) → Leaves s rest → Leaves s (orRefuseWith n s b rest)
+unfolding orRefuseWith
 or-leaves n s true rest h = h
 or-leaves n s false rest h = λ _. refl
 
@@ -125,8 +126,8 @@ refused-stays x t e = go (t .call) e
         λ i. record { shelf = p i; area = q i }
 
 -- ---- a result is given only where the rules are kept
-unbroken : {A : Type 0} (s : Shelf) (b : Bool) (rest : After A) → isResult (orRefuse 14 s b rest .outcome) ≡ true → b ≡ true
-unfolding orRefuse
+unbroken : {A : Type 0} (s : Shelf) (b : Bool) (rest : After A) → isResult (orRefuseWith 14 s b rest .outcome) ≡ true → b ≡ true
+unfolding orRefuseWith
 unbroken s true rest e = refl
 unbroken s false rest e = e
 

@@ -29,11 +29,11 @@ abbrev pub promised : Shelf → ℕ
 promised s = promisedIn (s .watches) (s .records)
 
 -- how many sections watch w holds
-abbrev pub heldIn : List Place → ℕ → ℕ → ℕ
-heldIn ps k w = count k (λ i. holdsFor (placeIn ps i) w)
+abbrev pub heldAmong : List Place → ℕ → ℕ → ℕ
+heldAmong ps k w = count k (λ i. holdsFor (placeIn ps i) w)
 
 abbrev pub heldBy : Shelf → ℕ → ℕ
-heldBy s w = heldIn (s .places) (s .count) w
+heldBy s w = heldAmong (s .places) (s .count) w
 
 -- a kind that may be watched
 unfoldable pub watchable : Found → Bool
@@ -83,7 +83,8 @@ lengthsFit s = all (s .count) (λ i. placeAt s i .used ⇒ leb (placeAt s i .len
 unfoldable pub keysInRange : Shelf → Bool
 keysInRange s = all (s .records) (λ w. watchAt s w .live ⇒ inRange (asked (watchAt s w .key)) (watchAt s w .quota))
 
--- ---- the sizes: 1 to 16 records, 1 to 64 places, an area of 4,096 bytes a place
+-- ---- the sizes: 1 to 16 records, 1 to 64 places, an area of 4,096 bytes a place. (A shelf has arrays of sixteen records and 64 places, always; the
+-- first so many of each are in use)
 unfoldable pub sizesInRange : ℕ → ℕ → Bool
 sizesInRange places records = leb 1 places & leb places 64 & leb 1 records & leb records 16
 

@@ -16,7 +16,7 @@ pub use crate::records::wide_word;
 ghost use mathlib.Core.Path.{_≡_};
 ghost use Prim.Native.Nat.{_≤_, _<_};
 ghost use Rattle.shelf_state.specs.Records.{noEdition, blankWatch, blankPlace, findWatch, firstClosed, findPlace, firstFree, setWatch, release, dropped, emptyShelf};
-ghost use Rattle.shelf_state.specs.Rules.{quotaOf, heldIn};
+ghost use Rattle.shelf_state.specs.Rules.{quotaOf, heldAmong};
 ghost use Rattle.shelf_state.specs.Tests.{roomIn};
 
 // The first open watch below n with the key, or n.
@@ -88,7 +88,7 @@ pub fn free_place(ps: [Place; 64], n: usize) -> usize
 // How many sections the watch holds in the first n places.
 pub fn held_in(ps: [Place; 64], n: usize, w: usize) -> usize
     requires { ⌜ n ≤ 64 ⌝ }
-    ensures { λ r. ⌜ r ≡ heldIn ps n w ⌝ }
+    ensures { λ r. ⌜ r ≡ heldAmong ps n w ⌝ }
 {
     let mut held = 0;
     let mut i = 0;

@@ -11,7 +11,7 @@ use Rattle.annex_c.specs.Table1.{table1}
 use Rattle.annex_c.specs.Table2.{table2}
 use Rattle.annex_c.specs.Tree.{root, tree, child}
 use Rattle.trees.specs.Which.{tableOf}
-use Rattle.steps.specs.Steps.{entryFrom, entriesOf, stepsFrom, stepsOf}
+use Rattle.steps.specs.Steps.{entryFrom, stepsOfTree, stepsFrom, stepTable}
 use Rattle.steps.specs.Words1.{steps1}
 use Rattle.steps.specs.Words2.{steps2}
 use Rattle.steps.specs.Words.{stepWords}
@@ -43,20 +43,20 @@ in-words (w ∷ ws) (suc q) r l =
     let e : 4 * suc q + r ≡ length (entriesIn w) + (4 * q + r) = omega (arith, length-entriesIn w) in
     rw e (getD-append-add (entriesIn w) (entries ws) (4 * q + r) 0 ∙ in-words ws q r l)
 
-held1 : entries steps1 ≡ stepsOf table1
-unfolding entries entriesIn steps1 stepsOf stepsFrom entriesOf entryFrom tree root child table1
+held1 : entries steps1 ≡ stepTable table1
+unfolding entries entriesIn steps1 stepTable stepsFrom stepsOfTree entryFrom tree root child table1
 held1 = refl
 
-held2 : entries steps2 ≡ stepsOf table2
-unfolding entries entriesIn steps2 stepsOf stepsFrom entriesOf entryFrom tree root child table2
+held2 : entries steps2 ≡ stepTable table2
+unfolding entries entriesIn steps2 stepTable stepsFrom stepsOfTree entryFrom tree root child table2
 held2 = refl
 
-held : (b : Bool) → entries (stepWords b) ≡ stepsOf (tableOf b)
+held : (b : Bool) → entries (stepWords b) ≡ stepTable (tableOf b)
 unfolding stepWords tableOf
 held true = held1
 held false = held2
 
-pub entry-in : (b : Bool) (i : ℕ) → getD (stepWords b) (i / 4) 0 / 2 ^ (16 * (i % 4)) % 4096 ≡ getD (stepsOf (tableOf b)) i 0
+pub entry-in : (b : Bool) (i : ℕ) → getD (stepWords b) (i / 4) 0 / 2 ^ (16 * (i % 4)) % 4096 ≡ getD (stepTable (tableOf b)) i 0
 entry-in b i =
     let e : 4 * (i / 4) + i % 4 ≡ i = omega arith in
     sym (in-words (stepWords b) (i / 4) (i % 4) (omega arith)) ∙ ap (λ (k : ℕ). getD (entries (stepWords b)) k 0) e

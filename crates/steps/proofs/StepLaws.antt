@@ -10,7 +10,7 @@ use lib.ListN.{length, getD, length-append, List·getD-append, List·getD-eq-def
 use lib.Seq.{getD-append-add}
 use borrow.Author.Tests.{le-leb, lt-leb, leb-true, leb-false}
 use Rattle.annex_c.specs.Tree.{tree, child}
-use Rattle.steps.specs.Steps.{entryFrom, entriesOf, stepsFrom, stepsOf}
+use Rattle.steps.specs.Steps.{entryFrom, stepsOfTree, stepsFrom, stepTable}
 use Rattle.steps.specs.Reaches.{Reached, Stepping}
 use Rattle.steps.proofs.WalkLaws.{walk-early, walk-leaf, walk-node}
 
@@ -109,13 +109,13 @@ module _ (u : List ℕ) (w : ℕ) where
       omega arith
 
 -- ---- the entries one by one
-length-entries : (u : List ℕ) (m w : ℕ) → length (entriesOf u m w) ≡ m
-unfolding entriesOf
+length-entries : (u : List ℕ) (m w : ℕ) → length (stepsOfTree u m w) ≡ m
+unfolding stepsOfTree
 length-entries u zero w = refl
 length-entries u (suc m) w = ap suc (length-entries u m (w + 1))
 
-entry-at : (u : List ℕ) (m w j : ℕ) → j < m → getD (entriesOf u m w) j 0 ≡ entryFrom u (w + j) 4 0
-unfolding entriesOf
+entry-at : (u : List ℕ) (m w j : ℕ) → j < m → getD (stepsOfTree u m w) j 0 ≡ entryFrom u (w + j) 4 0
+unfolding stepsOfTree
 entry-at u zero w j l = absurd (omega arith)
 entry-at u (suc m) w zero l = rw add-zero
 entry-at u (suc m) w (suc j) l =
@@ -127,25 +127,25 @@ unfolding stepsFrom
 step-at t zero p q w l h = absurd (omega arith)
 step-at t (suc m) p zero w l h =
     let u = tree t p in
-    let b : w < length (entriesOf (tree t p) 16 0) = omega (arith, length-entries (tree t p) 16 0) in
-    rw (add-zero, zero-add) (List·getD-append (entriesOf u 16 0) (stepsFrom t m (p + 1)) 0 w b ∙ entry-at u 16 0 w h ∙ rw zero-add)
+    let b : w < length (stepsOfTree (tree t p) 16 0) = omega (arith, length-entries (tree t p) 16 0) in
+    rw (add-zero, zero-add) (List·getD-append (stepsOfTree u 16 0) (stepsFrom t m (p + 1)) 0 w b ∙ entry-at u 16 0 w h ∙ rw zero-add)
 step-at t (suc m) p (suc q) w l h =
     let u = tree t p in
-    let e : 16 * suc q + w ≡ length (entriesOf (tree t p) 16 0) + (16 * q + w) = omega (arith, length-entries (tree t p) 16 0) in
+    let e : 16 * suc q + w ≡ length (stepsOfTree (tree t p) 16 0) + (16 * q + w) = omega (arith, length-entries (tree t p) 16 0) in
     let f : p + suc q ≡ p + 1 + q = omega arith in
-    rw (e, f) (getD-append-add (entriesOf u 16 0) (stepsFrom t m (p + 1)) (16 * q + w) 0 ∙ step-at t m (p + 1) q w (omega arith) h)
+    rw (e, f) (getD-append-add (stepsOfTree u 16 0) (stepsFrom t m (p + 1)) (16 * q + w) 0 ∙ step-at t m (p + 1) q w (omega arith) h)
 
 -- past the last one
 length-steps : (t : List ℕ) (m p : ℕ) → length (stepsFrom t m p) ≡ 16 * m
 unfolding stepsFrom
 length-steps t zero p = refl
 length-steps t (suc m) p =
-    length-append (entriesOf (tree t p) 16 0) (stepsFrom t m (p + 1)) ∙ omega (arith, length-entries (tree t p) 16 0, length-steps t m (p + 1))
+    length-append (stepsOfTree (tree t p) 16 0) (stepsFrom t m (p + 1)) ∙ omega (arith, length-entries (tree t p) 16 0, length-steps t m (p + 1))
 
 -- THE law: an entry is where its four bits lead from the root
-pub stepping : (t bs : List ℕ) (p i w e : ℕ) → w < 16 → Four bs i w → e ≡ getD (stepsOf t) (16 * p + w) 0 → e < 4096
+pub stepping : (t bs : List ℕ) (p i w e : ℕ) → w < 16 → Four bs i w → e ≡ getD (stepTable t) (16 * p + w) 0 → e < 4096
     → Stepping (tree t p) bs i e
-unfolding stepsOf
+unfolding stepTable
 stepping t bs p i w e small four q low = by (leb 128 p) refl
   where
     by : (x : Bool) → leb 128 p ≡ x → Stepping (tree t p) bs i e

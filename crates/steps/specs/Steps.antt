@@ -15,15 +15,15 @@ entryFrom u w (suc k) n = elim (leb 128 (child u n (w / 2 ^ k % 2))) [
 ]
 
 -- the entries of a tree, for m numbers of four bits from w on
-unfoldable pub entriesOf : List ℕ → ℕ → ℕ → List ℕ
-entriesOf u zero w = []
-entriesOf u (suc m) w = entryFrom u w 4 0 ∷ entriesOf u m (w + 1)
+unfoldable pub stepsOfTree : List ℕ → ℕ → ℕ → List ℕ
+stepsOfTree u zero w = []
+stepsOfTree u (suc m) w = entryFrom u w 4 0 ∷ stepsOfTree u m (w + 1)
 
 -- those of m prior symbols from p on
 unfoldable pub stepsFrom : List ℕ → ℕ → ℕ → List ℕ
 stepsFrom t zero p = []
-stepsFrom t (suc m) p = entriesOf (tree t p) 16 0 ++ stepsFrom t m (p + 1)
+stepsFrom t (suc m) p = stepsOfTree (tree t p) 16 0 ++ stepsFrom t m (p + 1)
 
 -- the step table of a decode table
-unfoldable pub stepsOf : List ℕ → List ℕ
-stepsOf t = stepsFrom t 128 0
+unfoldable pub stepTable : List ℕ → List ℕ
+stepTable t = stepsFrom t 128 0

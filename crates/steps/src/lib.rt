@@ -7,7 +7,7 @@ ghost use mathlib.Core.Path.{_≡_};
 ghost use Prim.Native.Nat.{_<_};
 ghost use lib.ListN.{getD};
 ghost use Rattle.trees.specs.Which.{tableOf};
-ghost use Rattle.steps.specs.Steps.{stepsOf};
+ghost use Rattle.steps.specs.Steps.{stepTable};
 ghost use Rattle.steps.specs.Words.{stepWords};
 
 fn row(titles: bool, i: usize) -> u64
@@ -18,7 +18,7 @@ fn row(titles: bool, i: usize) -> u64
 
 // Entry i, and 0 past the end.
 pub fn step_of(titles: bool, i: usize) -> usize
-    ensures { λ r. ⌜ (r ≡ getD (stepsOf (tableOf titles)) i 0) × (r < 4096) ⌝ }
+    ensures { λ r. ⌜ (r ≡ getD (stepTable (tableOf titles)) i 0) × (r < 4096) ⌝ }
 {
     ((row(titles, i / 4) >> (16 * (i % 4))) % 4096) as usize
 }

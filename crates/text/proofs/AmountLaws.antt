@@ -16,7 +16,8 @@ use Rattle.text.specs.declared.answer.Amount.{Amount}
 use Rattle.text.specs.declared.segments.Way.{Way}
 use Rattle.text.specs.Answers.{amountOf}
 use Rattle.text.specs.Segments.{wayOf, replacedBy, segmentReplaced}
-use Rattle.text.specs.Strings.{standing, stringAt, toldFrom, joinedReplaced, stringReplaced}
+use Rattle.bytes_at.specs.Walks.{standing}
+use Rattle.text.specs.Strings.{stringAt, toldFrom, joinedReplaced, stringReplaced}
 
 pub amount-result : (p : ℕ) (us : List ℕ) → amountOf p (result us) ≡ result (record { units = length us; replaced = p })
 unfolding amountOf after

@@ -10,7 +10,7 @@ use Rattle.bytes_at.specs.declared.Walk.{Walk}
 use Rattle.bytes_at.specs.declared.Walk.the-variants.{To, Bad}
 use Rattle.logic.specs.Choices.{ifEq, ifLt, pick}
 use Rattle.bytes_at.specs.Fields.{byteAt}
-use Rattle.bytes_at.specs.Walks.{fieldsTo, then, many}
+use Rattle.bytes_at.specs.Walks.{fieldsTo, then, many, standing}
 use Rattle.bytes_at.proofs.WalkLaws.{to-is, then-inv, skipped}
 use Rattle.refusal.specs.Outcomes.{Outcome, refused, result, after}
 use Rattle.refusal.proofs.OutcomeLaws.{same-result, not-both}
@@ -21,7 +21,7 @@ use Rattle.format.proofs.FormatLaws.{head-forward}
 use Rattle.segment.specs.declared.Judged.{Judged}
 use Rattle.segment.specs.declared.Judged.the-variants.{Units, Refused}
 use Rattle.segment.specs.Bits.{bits}
-use Rattle.segment.specs.Text.{Text, units, judged}
+use Rattle.segment.specs.Text.{Text, units, judgedText}
 use Rattle.segment.specs.Segment.{segmentText, titleText, descriptionText}
 use Rattle.segment.proofs.BitLaws.{length-bits}
 use Rattle.segment.proofs.TextLaws.{Fits, fits-count}
@@ -29,8 +29,8 @@ use Rattle.segment.proofs.SegmentLaws.{coded-fits}
 use Rattle.strings.specs.Strings.{segment, string}
 use Rattle.text.specs.declared.segments.Way.{Way}
 use Rattle.text.specs.declared.segments.Way.the-variants.{Bytes, Utf16, Titles, Descriptions, Unread}
-use Rattle.text.specs.Segments.{utf16Units, textUnits, unitsBy, segmentUnits, pairs}
-use Rattle.text.specs.Strings.{standing, stringCount, stringAt, joined, joinedUnits, stringUnits}
+use Rattle.text.specs.Segments.{utf16Units, unitsOrRefusal, unitsBy, segmentUnits, pairs}
+use Rattle.text.specs.Strings.{stringCount, stringAt, joined, joinedUnits, stringUnits}
 use Rattle.text.proofs.UnitLaws.{pairs-length, judged-refusal}
 
 -- at most m units, or a refusal of a text
@@ -43,15 +43,15 @@ few-more m n (refused k) h f = f
 few-more m n (result us) h f = omega (arith, h, f)
 
 -- ---- one segment
-text-few : (x : Text) (m : ℕ) → Fits m x → Few m (textUnits x)
-unfolding textUnits
-text-few x m f = by (judged 0 x) refl
+text-few : (x : Text) (m : ℕ) → Fits m x → Few m (unitsOrRefusal x)
+unfolding unitsOrRefusal
+text-few x m f = by (judgedText 0 x) refl
   where
-    by : (j : Judged) → judged 0 x ≡ j → Few m (elim j [ Units n ↦ result (units x) | Refused k ↦ refused k ])
+    by : (j : Judged) → judgedText 0 x ≡ j → Few m (elim j [ Units n ↦ result (units x) | Refused k ↦ refused k ])
     by (Units n) e = fits-count m x f
     by (Refused k) e = omega (arith, judged-refusal m 0 k x f e)
 
-compressed-few : (read : ℕ → List ℕ → Reading) (s : List ℕ) → Few (8 * length s) (textUnits (segmentText read s))
+compressed-few : (read : ℕ → List ℕ → Reading) (s : List ℕ) → Few (8 * length s) (unitsOrRefusal (segmentText read s))
 unfolding segmentText
 compressed-few read s = rw (← length-bits s) (text-few (segmentText read s) (length (bits s)) (coded-fits read (length (bits s)) 0 (bits s)))
 

@@ -9,7 +9,7 @@ use lib.ListN.{length, length-append}
 use lib.Seq.{sets, length-sets}
 use Rattle.bytes_at.specs.declared.Walk.{Walk}
 use Rattle.bytes_at.specs.declared.Walk.the-variants.{To, Bad}
-use Rattle.bytes_at.specs.Walks.{then, many}
+use Rattle.bytes_at.specs.Walks.{then, many, standing}
 use Rattle.bytes_at.proofs.WalkLaws.{skipped, then-inv}
 use Rattle.refusal.specs.Numbers.{numberOf}
 use Rattle.refusal.specs.Outcomes.{Outcome, refused, result, after}
@@ -25,9 +25,9 @@ use Rattle.text.specs.declared.answer.Units.{Units}
 use Rattle.text.specs.declared.answer.Units.the-variants as amounts
 use Rattle.text.specs.Answers.{amountOf}
 use Rattle.text.specs.Segments.{segmentUnits}
-use Rattle.text.specs.Strings.{standing, joined, joinedUnits}
+use Rattle.text.specs.Strings.{joined, joinedUnits}
 use Rattle.refusal.specs.Outputs.{counted}
-use Rattle.text.specs.Inner.{plainUnits, joinedOf, joinedPlain, stored, Wrote, WroteAll}
+use Rattle.text.specs.Inner.{plainUnits, joinedOf, joinedPlain, storedUnits, Wrote, WroteAll}
 use Rattle.refusal.proofs.OutputLaws.{from-number, from-refusal}
 use Rattle.text.proofs.AmountLaws.{amount-refused, amount-counted}
 
@@ -180,7 +180,7 @@ module _ {x : Outcome (List ℕ)} {l₀ : List ℕ} {m : ℕ} {y : Outcome (List
         }
 
     pub going-on : (k : ℕ) (u : Number) → 0 < left → Wrote z l n u l′ → u ≡ Value k → Going x l₀ m y′ l′ (left - 1) (n + k)
-    unfolding stored
+    unfolding storedUnits
     going-on k u h w q =
         let v : Wrote z l n (Value k) l′ = rw q at w in
         let f = from-number z k (v .answers) in

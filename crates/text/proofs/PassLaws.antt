@@ -12,7 +12,7 @@ use Rattle.refusal.specs.declared.Refusal.{Refusal}
 use Rattle.annex_c.specs.Codes.{Reading}
 use Rattle.segment.specs.declared.Judged.the-variants as judges
 use Rattle.segment.specs.Bits.{bits}
-use Rattle.segment.specs.Text.{Text, done, unit, units, judged}
+use Rattle.segment.specs.Text.{Text, done, unit, units, judgedText}
 use Rattle.segment.specs.Text as texts
 use Rattle.segment.specs.Segment.{segmentText}
 use Rattle.segment.specs.Inner.{answer}
@@ -25,7 +25,7 @@ use Rattle.text.specs.declared.answer.Units.{Units}
 use Rattle.text.specs.declared.answer.Units.the-variants as amounts
 use Rattle.text.specs.declared.answer.Number.{Number}
 use Rattle.text.specs.declared.answer.Number.the-variants.{Value, Refused}
-use Rattle.text.specs.Segments.{textUnits, segmentUnits}
+use Rattle.text.specs.Segments.{unitsOrRefusal, segmentUnits}
 use Rattle.text.specs.Inner as inner
 use Rattle.text.specs.Inner.{Wrote, Once, WroteAll, OnceAll}
 use Rattle.refusal.proofs.OutcomeLaws.{same-result, not-both}
@@ -53,35 +53,35 @@ once-refused x l n r e q w = record {
   long = w;
 }
 
-length-stored : (l : List ℕ) (n : ℕ) (x : Outcome (List ℕ)) → length (inner.stored l n x) ≡ length l
-unfolding inner.stored
+length-stored : (l : List ℕ) (n : ℕ) (x : Outcome (List ℕ)) → length (inner.storedUnits l n x) ≡ length l
+unfolding inner.storedUnits
 length-stored l n (refused k) = refl
 length-stored l n (result us) = length-sets l n us
 
 pub once-wrote : {x : Outcome (List ℕ)} {l : List ℕ} {n : ℕ} {r : Number} {e : List ℕ} → Wrote x l n r e → Once x l n r e
-unfolding inner.stored
+unfolding inner.storedUnits
 once-wrote {x} {l} {n} {r} {e} w = record {
   answers = w .answers;
-  stores = λ us q. w .stores ∙ ap (inner.stored l n) q;
+  stores = λ us q. w .stores ∙ ap (inner.storedUnits l n) q;
   long = ap length (w .stores) ∙ length-stored l n x;
 }
 
 -- an answer below 4096 is a text that ends well, and another one that is refused, wherever the count begins
-well : (n m : ℕ) (x : Text) → answer n x < 4096 → judged m x ≡ judges.Units (m + length (units x))
-unfolding answer judged units
+well : (n m : ℕ) (x : Text) → answer n x < 4096 → judgedText m x ≡ judges.Units (m + length (units x))
+unfolding answer judgedText units
 well n m done h = ap judges.Units (omega arith)
 well n m (texts.refused k) h = absurd (omega arith)
 well n m (unit u x) h = well (n + 1) (m + 1) x h ∙ ap judges.Units (omega arith)
 
-broken : (n m k : ℕ) (x : Text) → Fits k x → n + k < 4096 → 4096 ≤ answer n x → judged m x ≡ judges.Refused 11
-unfolding answer judged
+broken : (n m k : ℕ) (x : Text) → Fits k x → n + k < 4096 → 4096 ≤ answer n x → judgedText m x ≡ judges.Refused 11
+unfolding answer judgedText
 broken n m k done f b h = absurd (omega arith)
 broken n m k (texts.refused j) f b h = ap judges.Refused f
 broken n m zero (unit u x) f b h = absurd f
 broken n m (suc k) (unit u x) f b h = broken (n + 1) (m + 1) k x f (omega arith) h
 
 module _ (read : ℕ → List ℕ → Reading) (s : List ℕ) (l e : List ℕ) (n a : ℕ) (room : n + 8 * length s ≤ 2040)
-    (o : pair.Outcome (segmentText read s) n l a e) where
+    (o : pair.PairOutcome (segmentText read s) n l a e) where
   fits : Fits (length (bits s)) (segmentText read s)
   unfolding segmentText
   fits = coded-fits read (length (bits s)) 0 (bits s)
@@ -92,17 +92,17 @@ module _ (read : ℕ → List ℕ → Reading) (s : List ℕ) (l e : List ℕ) (
   pub once-after : a < 4096 → n ≤ a
   once-after h = omega (arith, place h)
 
-  pub once-text : a < 4096 → Once (textUnits (segmentText read s)) l n (Value (a - n)) e
-  unfolding textUnits
+  pub once-text : a < 4096 → Once (unitsOrRefusal (segmentText read s)) l n (Value (a - n)) e
+  unfolding unitsOrRefusal
   once-text h =
       let d = well n 0 (segmentText read s) (rw (o .answers) at h) in
-      once-units (textUnits (segmentText read s)) l n (a - n) (units (segmentText read s)) e (rw (textUnits, d)) (omega (arith, place h)) (o .stores)
+      once-units (unitsOrRefusal (segmentText read s)) l n (a - n) (units (segmentText read s)) e (rw (unitsOrRefusal, d)) (omega (arith, place h)) (o .stores)
 
-  pub once-broken : (r : Refusal) → numberOf r ≡ 11 → 4096 ≤ a → Once (textUnits (segmentText read s)) l n (Refused r) e
-  unfolding textUnits
+  pub once-broken : (r : Refusal) → numberOf r ≡ 11 → 4096 ≤ a → Once (unitsOrRefusal (segmentText read s)) l n (Refused r) e
+  unfolding unitsOrRefusal
   once-broken r q h =
       let d = broken n 0 (length (bits s)) (segmentText read s) fits (omega (arith, length-bits s)) (rw (o .answers) at h) in
-      once-refused (textUnits (segmentText read s)) l n r e (rw (textUnits, d, q)) (ap length (o .stores) ∙ length-sets l n (units (segmentText read s)))
+      once-refused (unitsOrRefusal (segmentText read s)) l n r e (rw (unitsOrRefusal, d, q)) (ap length (o .stores) ∙ length-sets l n (units (segmentText read s)))
 
 -- ---- the segments of a string
 are-units : (n : ℕ) (a : Amount) → amounts.Are (record { units = n; replaced = 0 }) ≡ amounts.Are a → n ≡ a .units

@@ -6,7 +6,7 @@ use native.Mathlib.Omega.{arith}
 use lib.ListN.{length, length-append}
 use Rattle.bytes_at.specs.Fields.{byteAt}
 use Rattle.bytes_at.specs.Bits.{fieldAt}
-use Rattle.bytes_at.specs.Walks.{fieldsTo, then, many}
+use Rattle.bytes_at.specs.Walks.{fieldsTo, then, many, standing}
 use Rattle.bytes_at.proofs.BitLaws.{byte-bits, all-at, join-at}
 use Rattle.refusal.specs.Outcomes.{Outcome, refused, after}
 use Rattle.refusal.proofs.OutcomeLaws.{after-result}
@@ -18,11 +18,11 @@ use Rattle.format.specs.Laws.OfValues.{bytes-length}
 use Rattle.format.specs.Told.{told-there, last-tells}
 use Rattle.strings.specs.Strings.{SegmentFields, StringFields, segment, string}
 use Rattle.text.specs.Segments.{wayOf, segmentUnits, replacedBy, segmentReplaced}
-use Rattle.text.specs.Strings.{standing, headingBefore, joined, joinedUnits, joinedReplaced}
+use Rattle.text.specs.Strings.{headingBefore, joined, joinedUnits, joinedReplaced}
 use Rattle.text.specs.Values.{segmentFor, segmentsFor, replacedFor, headingFor, ofString}
 use Rattle.text.proofs.UnitLaws.{units-at}
 use Rattle.text.proofs.AmountLaws.{told-result}
-use Rattle.text.proofs.TextLaws.{standing-to}
+use Rattle.bytes_at.proofs.WalkLaws.{standing-to}
 
 -- ---- the parts of a text where they lie
 module _ (s : List ℕ) (z : Bytes s) where

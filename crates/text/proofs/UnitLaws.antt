@@ -13,13 +13,13 @@ use Rattle.refusal.specs.Outcomes.{Outcome, refused, result}
 use Rattle.refusal.specs.declared.Refusal.{Refusal}
 use Rattle.refusal.proofs.OutcomeLaws.{same-result, not-both}
 use Rattle.segment.specs.declared.Judged.the-variants.{Refused}
-use Rattle.segment.specs.Text.{Text, done, unit, judged}
+use Rattle.segment.specs.Text.{Text, done, unit, judgedText}
 use Rattle.segment.specs.Text as texts
 use Rattle.segment.proofs.TextLaws.{Fits}
 use Rattle.text.specs.declared.answer.Number.the-variants as answers
 use Rattle.text.specs.declared.segments.Way.{Way}
 use Rattle.text.specs.Segments.{wayOf, pairs, utf16Units, unitsBy, segmentUnits}
-use Rattle.text.specs.Inner.{plain, plainBy, plainUnits, stored, Wrote}
+use Rattle.text.specs.Inner.{plainPairs, plainBy, plainUnits, storedUnits, Wrote}
 use Rattle.refusal.proofs.OutputLaws.{counted-result, counted-refused}
 
 -- ---- pairs of bytes
@@ -50,7 +50,7 @@ utf16-odd s h = sym (eq-no (length s % 2) 0 (result (pairs s)) (refused 11) h re
 -- ---- what is answered and stored
 pub wrote-units : (x : Outcome (List ℕ)) (l : List ℕ) (n k : ℕ) (us e : List ℕ) → x ≡ result us → k ≡ length us → length us ≤ 2040
     → e ≡ sets l n us → Wrote x l n (answers.Value k) e
-unfolding stored
+unfolding storedUnits
 wrote-units x l n k us e q c m w = record {
   answers = rw (q, c, counted-result us);
   stores = rw q w;
@@ -59,7 +59,7 @@ wrote-units x l n k us e q c m w = record {
 
 pub wrote-refused : (x : Outcome (List ℕ)) (l : List ℕ) (n : ℕ) (r : Refusal) (e : List ℕ) → x ≡ refused (numberOf r) → e ≡ l
     → Wrote x l n (answers.Refused r) e
-unfolding stored
+unfolding storedUnits
 wrote-refused x l n r e q w = record {
   answers = rw (q, counted-refused (numberOf r));
   stores = rw q w;
@@ -76,29 +76,29 @@ stored-past l [] n h = refl
 stored-past l (u ∷ us) n h = stored-past l us (suc n) (omega arith) ∙ ap (λ (m : List ℕ). sets m (suc n) us) (sym (set-out l n u h))
 
 -- ---- a compressed segment is refused by 11 only
-pub judged-refusal : (m n k : ℕ) (x : Text) → Fits m x → judged n x ≡ Refused k → k ≡ 11
-unfolding judged
+pub judged-refusal : (m n k : ℕ) (x : Text) → Fits m x → judgedText n x ≡ Refused k → k ≡ 11
+unfolding judgedText
 judged-refusal m n k done f e = let z : _≡_ {A = ℕ} 0 1 = cc in absurd (omega arith)
 judged-refusal m n k (texts.refused j) f e = let q : j ≡ k = cc in omega arith
 judged-refusal zero n k (unit u x) f e = absurd f
 judged-refusal (suc m) n k (unit u x) f e = judged-refusal m (n + 1) k x f e
 
 -- ---- plain bytes, one or two a unit
-module _ (wide : Bool) (s : List ℕ) (i : ℕ) (h : i < length (plain wide s)) where
+module _ (wide : Bool) (s : List ℕ) (i : ℕ) (h : i < length (plainPairs wide s)) where
   pub pair-there : wide ≡ true → 2 * i + 1 < length s
-  unfolding plain
+  unfolding plainPairs
   pair-there e = omega (arith, pairs-length s, rw e at h)
 
-  pub pair-at : wide ≡ true → 256 * getD s (2 * i) 0 + getD s (2 * i + 1) 0 ≡ getD (plain wide s) i 0
-  unfolding plain
+  pub pair-at : wide ≡ true → 256 * getD s (2 * i) 0 + getD s (2 * i + 1) 0 ≡ getD (plainPairs wide s) i 0
+  unfolding plainPairs
   pair-at e = rw e (sym (pairs-at s i (pair-there e)))
 
   pub byte-there : wide ≡ false → i < length s
-  unfolding plain
+  unfolding plainPairs
   byte-there e = rw e at h
 
-  pub byte-at : wide ≡ false → getD s i 0 ≡ getD (plain wide s) i 0
-  unfolding plain
+  pub byte-at : wide ≡ false → getD s i 0 ≡ getD (plainPairs wide s) i 0
+  unfolding plainPairs
   byte-at e = rw e
 
 -- ---- a segment where it stands

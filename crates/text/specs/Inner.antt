@@ -17,13 +17,14 @@ use Rattle.text.specs.declared.segments.Way.{Way}
 use Rattle.text.specs.declared.segments.Way.the-variants.{Bytes, Utf16, Titles, Descriptions, Unread}
 use Rattle.text.specs.Answers.{unitsOutcome, numberOutcome, amountOf}
 use Rattle.text.specs.Segments.{wayOf, pairs, unitsBy}
-use Rattle.text.specs.Strings.{standing, joined}
+use Rattle.bytes_at.specs.Walks.{standing}
+use Rattle.text.specs.Strings.{joined}
 use Rattle.refusal.specs.Outputs.{counted}
 
 -- plain bytes as units: two a unit, or one
-unfoldable pub plain : Bool → List ℕ → List ℕ
-plain true s = pairs s
-plain false s = s
+unfoldable pub plainPairs : Bool → List ℕ → List ℕ
+plainPairs true s = pairs s
+plainPairs false s = s
 
 -- a segment, to those who read plain bytes only: a compressed one is of no read pair
 unfoldable pub plainBy : Way → List ℕ → Outcome (List ℕ)
@@ -46,15 +47,15 @@ abbrev pub joinedPlain : List ℕ → ℕ → ℕ → ℕ → Outcome (List ℕ)
 joinedPlain s end m at = joinedOf (plainUnits s) s end m at
 
 -- the output l with the units of x stored from place n on, those that have room; a refusal stores none
-unfoldable pub stored : List ℕ → ℕ → Outcome (List ℕ) → List ℕ
-stored l n (refused k) = l
-stored l n (result us) = sets l n us
+unfoldable pub storedUnits : List ℕ → ℕ → Outcome (List ℕ) → List ℕ
+storedUnits l n (refused k) = l
+storedUnits l n (result us) = sets l n us
 
 -- a segment of the units x was read: the answer is r, and the output is then e. A segment has at most 255 bytes, and a unit takes
 -- a bit or more
 pub record Wrote (x : Outcome (List ℕ)) (l : List ℕ) (n : ℕ) (r : Number) (e : List ℕ) : Type 0 where
   pub answers : numberOutcome r ≡ counted x
-  pub stores : e ≡ stored l n x
+  pub stores : e ≡ storedUnits l n x
   pub few : (us : List ℕ) → x ≡ result us → length us ≤ 2040
 
 -- the same of joined segments, p of which were replaced; where one is refused, those before it may be stored

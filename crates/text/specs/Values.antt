@@ -1,4 +1,4 @@
--- What is answered for a text, by the strings and segments of its value.
+-- SCOPE 4.3 to 4.5: what is answered for a text, by the strings and segments of its value.
 use Prim.Native.Nat.{ℕ, zero, suc, _+_}
 use mathlib.Core.List.{List, [], _∷_}
 use lib.ListN.{length}

@@ -20,14 +20,14 @@ ghost use Rattle.annex_c.specs.Tree.{walked};
 ghost use Rattle.trees.specs.Which.{tableOf};
 ghost use Rattle.bytes_at.specs.Fields.{byteAt};
 ghost use Rattle.segment.specs.Segment.{segmentText};
-ghost use Rattle.text.specs.Segments.{textUnits, unitsBy, segmentUnits};
+ghost use Rattle.text.specs.Segments.{unitsOrRefusal, unitsBy, segmentUnits};
 ghost use Rattle.text.specs.Strings.{joinedUnits, joinedReplaced};
 ghost use Rattle.text.specs.Inner.{Wrote, WroteAll, Once, OnceAll};
 
 // A compressed segment.
 fn compressed_once(titles: bool, s: &[u8], o: &mut [u16; 2040], n: usize) -> Number
     requires { ⌜ (length (now s) ≤ 255) × (n + 8 * length (now s) ≤ 2040) ⌝ }
-    ensures { λ r. ⌜ Once (textUnits (segmentText (walked (tableOf titles)) (now (s .entry)))) (now (o .entry)) n r (now (o .exit)) ⌝ }
+    ensures { λ r. ⌜ Once (unitsOrRefusal (segmentText (walked (tableOf titles)) (now (s .entry)))) (now (o .entry)) n r (now (o .exit)) ⌝ }
 {
     let r = segment::read(titles, s, o, n);
     if r < 4096 {

@@ -17,7 +17,7 @@ ghost use lib.Seq.{sets};
 ghost use Rattle.refusal.specs.Outcomes.{result};
 ghost use Rattle.text.specs.Segments.{wayOf, utf16Units, unitsBy, segmentUnits};
 ghost use Rattle.text.specs.Strings.{joinedUnits, joinedReplaced};
-ghost use Rattle.text.specs.Inner.{plain, plainBy, plainUnits, joinedPlain, Wrote, WroteAll};
+ghost use Rattle.text.specs.Inner.{plainPairs, plainBy, plainUnits, joinedPlain, Wrote, WroteAll};
 
 // How a segment is read.
 pub enum Way {
@@ -62,8 +62,8 @@ fn two(a: u8, b: u8) -> u16
 
 // Unit i of plain bytes, one or two of them a unit.
 fn unit_at(s: &[u8], wide: bool, i: usize) -> u16
-    requires { ⌜ (length (now s) ≤ 255) × (i < length (plain wide (now s))) ⌝ }
-    ensures { λ r. ⌜ r ≡ getD (plain wide (now (s .entry))) i 0 ⌝ }
+    requires { ⌜ (length (now s) ≤ 255) × (i < length (plainPairs wide (now s))) ⌝ }
+    ensures { λ r. ⌜ r ≡ getD (plainPairs wide (now (s .entry))) i 0 ⌝ }
 {
     if wide {
         two(s[2 * i], s[2 * i + 1])
@@ -74,8 +74,8 @@ fn unit_at(s: &[u8], wide: bool, i: usize) -> u16
 
 // The first k units of plain bytes, from place n of the output on.
 fn store(s: &[u8], wide: bool, k: usize, out: &mut [u16], n: usize)
-    requires { ⌜ (length (now s) ≤ 255) × (k ≤ length (plain wide (now s))) ⌝ }
-    ensures { λ _. ⌜ now (out .exit) ≡ sets (now (out .entry)) n (take k (plain wide (now (s .entry)))) ⌝ }
+    requires { ⌜ (length (now s) ≤ 255) × (k ≤ length (plainPairs wide (now s))) ⌝ }
+    ensures { λ _. ⌜ now (out .exit) ≡ sets (now (out .entry)) n (take k (plainPairs wide (now (s .entry)))) ⌝ }
 {
     if out.len() <= n {
         return;

@@ -9,7 +9,7 @@ use Rattle.refusal.proofs.NumberLaws.{numbered, numbered-back}
 use Rattle.refusal.proofs.OutcomeLaws.{once-by}
 use Rattle.titles.specs.declared.TitlesAnswer.{TitlesAnswer}
 use Rattle.titles.specs.declared.TitlesAnswer.the-variants.{Refused, Are}
-use Rattle.titles.specs.Titles.{Counts, withRows, withUnits, titlesOutcome}
+use Rattle.titles.specs.Titles.{Counts, withTitleRows, withUnits, titlesOutcome}
 
 titles-told : Outcome Counts → TitlesAnswer
 titles-told (refused n) = Refused (numbered n)
@@ -24,6 +24,6 @@ pub titles-once : (x y : TitlesAnswer) → titlesOutcome x ≡ titlesOutcome y �
 titles-once = once-by titlesOutcome titles-told titles-back
 
 pub titles-keep : (s rows units : List ℕ) (o : Outcome Counts) (x : TitlesAnswer) (k : Refusal) → titlesOutcome x ≡ o → x ≡ Refused k
-    → (withRows s o rows ≡ rows) × (withUnits s o units ≡ units)
-unfolding withRows withUnits
+    → (withTitleRows s o rows ≡ rows) × (withUnits s o units ≡ units)
+unfolding withTitleRows withUnits
 titles-keep s rows units o x k e q = let n : o ≡ refused (numberOf k) = sym e ∙ ap titlesOutcome q in (rw n, rw n)

@@ -33,8 +33,8 @@ use Rattle.eit.specs.Titles.{titleOf}
 use Rattle.eit.specs.Fields.{titlePart, titleAt, eventEnd}
 use Rattle.titles.specs.declared.title.Found.{Found}
 use Rattle.titles.specs.declared.title.Found.the-variants as found
-use Rattle.titles.specs.Titles.{Told, text, textTold, toldOf, titleTold, unitsTold, rowTold}
-use Rattle.titles.specs.Inner.{countOf, rowOf, told, Read}
+use Rattle.titles.specs.Titles.{TitleTold, text, textTold, toldOf, titleTold, unitsTold, titleRow}
+use Rattle.titles.specs.Inner.{unitCount, rowOf, told, Read}
 
 -- ---- a text by the answer and the array
 module _ (x : Outcome (List ℕ)) (p : ℕ) (l e : List ℕ) (r : Units) (o : OnceAll x p l r e) (h : length l ≡ 2040) where
@@ -58,38 +58,38 @@ module _ (x : Outcome (List ℕ)) (p : ℕ) (l e : List ℕ) (r : Units) (o : On
       record { tells = (λ i. text (t i) (m i)) ∙ sym (ap (textTold p) (f .1 .0)); few = b; rare = omega (arith, g, m); long = o .long ∙ h }
 
 -- ---- what was read is what is told: its numbers, and its units
-module _ {t : Told} {r : Found} {o : List ℕ} (i : Read t r o) where
-  count-by : (r : Found) → countOf r ≤ length o → countOf r ≡ length (unitsTold (told r o))
+module _ {t : TitleTold} {r : Found} {o : List ℕ} (i : Read t r o) where
+  count-by : (r : Found) → unitCount r ≤ length o → unitCount r ≡ length (unitsTold (told r o))
   unfolding told unitsTold
   count-by found.NoTitle h = refl
   count-by found.NoStrings h = refl
   count-by (found.Refused k) h = refl
   count-by (found.Text a) h = sym (length-take-le (a .units) o h)
 
-  row-by : (n : ℕ) (r : Found) → countOf r ≤ length o → rowOf n r ≡ rowTold n (told r o)
-  unfolding told rowOf rowTold
+  row-by : (n : ℕ) (r : Found) → unitCount r ≤ length o → rowOf n r ≡ titleRow n (told r o)
+  unfolding told rowOf titleRow
   row-by n found.NoTitle h = refl
   row-by n found.NoStrings h = refl
   row-by n (found.Refused k) h = refl
   row-by n (found.Text a) h = rw (length-take-le (a .units) o h)
 
-  units-by : (r : Found) → take (countOf r) o ≡ unitsTold (told r o)
+  units-by : (r : Found) → take (unitCount r) o ≡ unitsTold (told r o)
   unfolding told unitsTold
   units-by found.NoTitle = refl
   units-by found.NoStrings = refl
   units-by (found.Refused k) = refl
   units-by (found.Text a) = refl
 
-  fits : countOf r ≤ length o
+  fits : unitCount r ≤ length o
   fits = omega (arith, i .few, i .long)
 
-  pub count-told : countOf r ≡ length (unitsTold t)
+  pub count-told : unitCount r ≡ length (unitsTold t)
   count-told = rw (← i .tells) (count-by r fits)
 
-  pub row-told : (n : ℕ) → rowOf n r ≡ rowTold n t
+  pub row-told : (n : ℕ) → rowOf n r ≡ titleRow n t
   row-told n = rw (← i .tells) (row-by n r fits)
 
-  pub units-told : take (countOf r) o ≡ unitsTold t
+  pub units-told : take (unitCount r) o ≡ unitsTold t
   units-told = rw (← i .tells) (units-by r)
 
 -- ---- a title has at most 255 bytes, and at most eight units for each of them

@@ -19,7 +19,7 @@ use Rattle.section.specs.declared.header.Header.{Header}
 use Rattle.section.specs.Bodies.{bodyOf}
 use Rattle.section.specs.Sections.{sectionBy}
 use Rattle.section.proofs.SectionLaws.{section-sound}
-use Rattle.titles.specs.Titles.{Told, noTitle, noStrings, refusedBy, text, titleTold, unitsTold, blankRow, rowTold, unitsFrom, rowsFrom, eventCount, firstEvent, Counts, roomFor, titlesIn, withRows, withUnits}
+use Rattle.titles.specs.Titles.{TitleTold, noTitle, noStrings, refusedBy, text, titleTold, unitsTold, blankRow, titleRow, unitsFrom, titleRowsFrom, eventCount, firstEvent, Counts, roomForTitles, titlesIn, withTitleRows, withUnits}
 use Rattle.titles.proofs.ReadLaws.{title-few, title-inside}
 
 -- the number of units that a title adds
@@ -71,8 +71,8 @@ module _ {s : List ℕ} {total : ℕ} {o : List ℕ} {a n k : ℕ} (left : Count
   count-done e = omega (arith, left .leads, ap length (none-left s k a e))
 
 -- ---- stored, one after the other
-row-four : (n : ℕ) (t : Told) → length (rowTold n t) ≡ 4
-unfolding rowTold blankRow
+row-four : (n : ℕ) (t : TitleTold) → length (titleRow n t) ≡ 4
+unfolding titleRow blankRow
 row-four n noTitle = refl
 row-four n noStrings = refl
 row-four n (refusedBy k) = refl
@@ -83,19 +83,19 @@ pub record TitlesLeft (s : List ℕ) (total : ℕ) (rows₀ rows₁ units₀ uni
   pub same-rows : length rows ≡ length rows₀
   pub same-units : length units ≡ length units₀
   pub room : p + 12 * k ≤ length rows₀
-  pub rows-lead : sets rows p (rowsFrom s n k a) ≡ rows₁
+  pub rows-lead : sets rows p (titleRowsFrom s n k a) ≡ rows₁
   pub units-lead : sets units n (unitsFrom s k a) ≡ units₁
 
 module _ (s : List ℕ) where
   rows-more : (l : List ℕ) (p n k a : ℕ) → 0 < k
-      → sets (sets (sets l p (eventRow s a)) (p + 8) (rowTold n (titleTold s a))) (p + 12) (rowsFrom s (n + added s a) (k - 1) (eventEnd s a))
-      ≡ sets l p (rowsFrom s n k a)
-  unfolding rowsFrom
+      → sets (sets (sets l p (eventRow s a)) (p + 8) (titleRow n (titleTold s a))) (p + 12) (titleRowsFrom s (n + added s a) (k - 1) (eventEnd s a))
+      ≡ sets l p (titleRowsFrom s n k a)
+  unfolding titleRowsFrom
   rows-more l p n zero a h = absurd (omega arith)
   rows-more l p n (suc k) a h =
       let row = eventRow s a in
-      let four = rowTold n (titleTold s a) in
-      let rest = rowsFrom s (n + added s a) k (eventEnd s a) in
+      let four = titleRow n (titleTold s a) in
+      let rest = titleRowsFrom s (n + added s a) k (eventEnd s a) in
       let w : length (row ++ four) ≡ 12 = length-append row four ∙ omega (arith, row-eight s a, row-four n (titleTold s a)) in
       let e : sets (sets l p row) (p + 8) four ≡ sets l p (row ++ four) =
       ap (λ (j : ℕ). sets (sets l p row) (p + j) four) (sym (row-eight s a)) ∙ sym (sets-append row four l p) in
@@ -106,8 +106,8 @@ module _ (s : List ℕ) where
   units-more l n k a h =
       sym (sets-append (unitsTold (titleTold s a)) (unitsFrom s (k - 1) (eventEnd s a)) l n) ∙ ap (sets l n) (sym (first-left s k a h))
 
-  rows-none : (l : List ℕ) (p n k a : ℕ) → k ≡ 0 → sets l p (rowsFrom s n k a) ≡ l
-  unfolding rowsFrom
+  rows-none : (l : List ℕ) (p n k a : ℕ) → k ≡ 0 → sets l p (titleRowsFrom s n k a) ≡ l
+  unfolding titleRowsFrom
   rows-none l p n k a e = rw e
 
 module _ {s : List ℕ} {total : ℕ} {rows₀ rows₁ units₀ units₁ o rows units : List ℕ} {a p n k : ℕ}
@@ -120,15 +120,15 @@ module _ {s : List ℕ} {total : ℕ} {rows₀ rows₁ units₀ units₁ o rows 
   units-room h r = omega (arith, count-room (left .count) h, left .same-units, r)
 
   pub titles-step : (e rows′ rows″ units′ : List ℕ) (b m : ℕ) → 0 < k → rows′ ≡ sets rows p (eventRow s a)
-      → rows″ ≡ sets rows′ (p + 8) (rowTold n (titleTold s a)) → units′ ≡ sets units n (unitsTold (titleTold s a))
+      → rows″ ≡ sets rows′ (p + 8) (titleRow n (titleTold s a)) → units′ ≡ sets units n (unitsTold (titleTold s a))
       → b ≡ eventEnd s a → m ≡ n + added s a → length e ≡ 2040
       → TitlesLeft s total rows₀ rows₁ units₀ units₁ e rows″ units′ b (p + 12) m (k - 1)
   titles-step e rows′ rows″ units′ b m h event four put next count long =
-      let q : rows″ ≡ sets (sets rows p (eventRow s a)) (p + 8) (rowTold n (titleTold s a)) = rw event at four in
+      let q : rows″ ≡ sets (sets rows p (eventRow s a)) (p + 8) (titleRow n (titleTold s a)) = rw event at four in
       rw count
       (record {
         count = count-step (left .count) e b (added s a) h refl next long;
-        same-rows = ap length q ∙ length-sets (sets rows p (eventRow s a)) (p + 8) (rowTold n (titleTold s a)) ∙ length-sets rows p (eventRow s a) ∙ left .same-rows;
+        same-rows = ap length q ∙ length-sets (sets rows p (eventRow s a)) (p + 8) (titleRow n (titleTold s a)) ∙ length-sets rows p (eventRow s a) ∙ left .same-rows;
         same-units = ap length put ∙ length-sets units n (unitsTold (titleTold s a)) ∙ left .same-units;
         room = omega (arith, left .room);
         rows-lead = rw (q, next) (rows-more s rows p n k a h ∙ left .rows-lead);
@@ -146,27 +146,27 @@ module _ (s rows units : List ℕ) (k from : ℕ) (counted : k ≡ eventCount s)
   abbrev Ends : Outcome Counts → List ℕ → List ℕ → Type 0
   Ends x rows′ units′ =
       (x ≡ titlesIn s (length rows) (length units))
-      × ((rows′ ≡ withRows s (titlesIn s (length rows) (length units)) rows) × (units′ ≡ withUnits s (titlesIn s (length rows) (length units)) units))
+      × ((rows′ ≡ withTitleRows s (titlesIn s (length rows) (length units)) rows) × (units′ ≡ withUnits s (titlesIn s (length rows) (length units)) units))
 
   refused-ends : refused 12 ≡ titlesIn s (length rows) (length units) → Ends (refused 12) rows units
-  unfolding withRows withUnits
+  unfolding withTitleRows withUnits
   refused-ends e = (e, (rw (← e), rw (← e)))
 
   pub no-rows : length rows < 12 * k → Ends (refused 12) rows units
-  unfolding titlesIn roomFor
+  unfolding titlesIn roomForTitles
   no-rows h = refused-ends (lt-yes (length rows) (12 * eventCount s) (refused 12) _ {r = refused 12} (rw counted at h) refl)
 
   pub no-units : 12 * k ≤ length rows → length units < length (unitsFrom s k from) → Ends (refused 12) rows units
-  unfolding titlesIn roomFor
+  unfolding titlesIn roomForTitles
   no-units h l =
       refused-ends
       (lt-no (length rows) (12 * eventCount s) (refused 12) _ {r = refused 12} (rw counted at h)
       (lt-yes (length units) _ (refused 12) _ {r = refused 12} (rw (counted, begins) at l) refl))
 
   pub both-room : (rows′ units′ : List ℕ) (n : ℕ) → 12 * k ≤ length rows → length (unitsFrom s k from) ≤ length units
-      → n ≡ length (unitsFrom s k from) → rows′ ≡ sets rows 0 (rowsFrom s 0 k from) → units′ ≡ sets units 0 (unitsFrom s k from)
+      → n ≡ length (unitsFrom s k from) → rows′ ≡ sets rows 0 (titleRowsFrom s 0 k from) → units′ ≡ sets units 0 (unitsFrom s k from)
       → Ends (result (record { events = k; units = n })) rows′ units′
-  unfolding titlesIn roomFor withRows withUnits
+  unfolding titlesIn roomForTitles withTitleRows withUnits
   both-room rows′ units′ n h l count put-rows put-units =
       let c : Counts = record { events = eventCount s; units = length (unitsFrom s (eventCount s) firstEvent) } in
       let e : result c ≡ titlesIn s (length rows) (length units) =

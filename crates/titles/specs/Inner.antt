@@ -6,14 +6,14 @@ use lib.ListN.{length, take}
 use Rattle.refusal.specs.Numbers.{numberOf}
 use Rattle.titles.specs.declared.title.Found.{Found}
 use Rattle.titles.specs.declared.title.Found.the-variants as found
-use Rattle.titles.specs.Titles.{Told, noTitle, noStrings, refusedBy, text, blankRow}
+use Rattle.titles.specs.Titles.{TitleTold, noTitle, noStrings, refusedBy, text, blankRow}
 
 -- how many units it has
-abbrev pub countOf : Found → ℕ
-countOf found.NoTitle = 0
-countOf found.NoStrings = 0
-countOf (found.Refused k) = 0
-countOf (found.Text a) = a .units
+abbrev pub unitCount : Found → ℕ
+unitCount found.NoTitle = 0
+unitCount found.NoStrings = 0
+unitCount (found.Refused k) = 0
+unitCount (found.Text a) = a .units
 
 -- how many of its segments were replaced
 abbrev pub replacedIn : Found → ℕ
@@ -30,15 +30,15 @@ rowOf n (found.Refused k) = blankRow (numberOf k)
 rowOf n (found.Text a) = 3 ∷ n ∷ a .units ∷ a .replaced ∷ []
 
 -- what is told of it, by the units at the array's start
-unfoldable pub told : Found → List ℕ → Told
+unfoldable pub told : Found → List ℕ → TitleTold
 told found.NoTitle o = noTitle
 told found.NoStrings o = noStrings
 told (found.Refused k) o = refusedBy (numberOf k)
 told (found.Text a) o = text (take (a .units) o) (a .replaced)
 
 -- the title t was read: the answer is r, and the array is then o
-pub record Read (t : Told) (r : Found) (o : List ℕ) : Type 0 where
+pub record Read (t : TitleTold) (r : Found) (o : List ℕ) : Type 0 where
   pub tells : told r o ≡ t
-  pub few : countOf r ≤ 2040
+  pub few : unitCount r ≤ 2040
   pub rare : replacedIn r < 256
   pub long : length o ≡ 2040

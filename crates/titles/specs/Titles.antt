@@ -6,6 +6,7 @@ use lib.Seq.{sets}
 use Rattle.logic.specs.Choices.{ifLt}
 use Rattle.refusal.specs.Numbers.{numberOf}
 use Rattle.refusal.specs.Outcomes.{Outcome, refused, result, after}
+use Rattle.refusal.specs.Outputs.{noValue}
 use Rattle.kind.specs.declared.Kind.the-variants.{Eit}
 use Rattle.kind.specs.Kinds.{limitsOf, onlyOf}
 use Rattle.part.specs.Parts.{bytesIn}
@@ -20,48 +21,44 @@ use Rattle.titles.specs.declared.TitlesAnswer.the-variants.{Refused, Are
 -- ---- a title
 -- what is told of it: that there is none; that it has no strings; the number that refuses the text of its first string; or the units of
 -- that text, and how many of its segments were replaced
-pub data Told : Type 0 where
-  noTitle : Told
-  noStrings : Told
-  refusedBy : ℕ → Told
-  text : List ℕ → ℕ → Told
+pub data TitleTold : Type 0 where
+  noTitle : TitleTold
+  noStrings : TitleTold
+  refusedBy : ℕ → TitleTold
+  text : List ℕ → ℕ → TitleTold
 
 -- a text by its outcome, and how many of its segments were replaced
-unfoldable pub textTold : ℕ → Outcome (List ℕ) → Told
+unfoldable pub textTold : ℕ → Outcome (List ℕ) → TitleTold
 textTold replaced (refused k) = refusedBy k
 textTold replaced (result us) = text us replaced
 
-unfoldable pub toldOf : List ℕ → Title → Told
+unfoldable pub toldOf : List ℕ → Title → TitleTold
 toldOf s None = noTitle
 toldOf s NoStrings = noStrings
 toldOf s (Text p) =
     textTold (stringReplaced (bytesIn s p) (length (bytesIn s p)) 0 0) (stringUnits (bytesIn s p) (length (bytesIn s p)) 0 0)
 
 -- the title of the event that begins at a
-unfoldable pub titleTold : List ℕ → ℕ → Told
+unfoldable pub titleTold : List ℕ → ℕ → TitleTold
 titleTold s a = toldOf s (titleAt s a)
 
 -- the units that it adds
-unfoldable pub unitsTold : Told → List ℕ
+unfoldable pub unitsTold : TitleTold → List ℕ
 unitsTold noTitle = []
 unitsTold noStrings = []
 unitsTold (refusedBy k) = []
 unitsTold (text us replaced) = us
 
--- what stands for a number that a title does not have: a blank is not a nought
-abbrev pub noValue : ℕ
-noValue = 0xFFFFFFFF
-
--- four numbers: its sort (1 no title, 2 no strings, 3 text, and else the number that refuses it); where its units begin, how many they
+-- four numbers, none of them 0 for one that the title does not have: its sort (1 no title, 2 no strings, 3 text, and else the number that refuses it, 10 or 11); where its units begin, how many they
 -- are, how many of its segments were replaced
 unfoldable pub blankRow : ℕ → List ℕ
 blankRow sort = sort ∷ noValue ∷ noValue ∷ noValue ∷ []
 
-unfoldable pub rowTold : ℕ → Told → List ℕ
-rowTold n noTitle = blankRow 1
-rowTold n noStrings = blankRow 2
-rowTold n (refusedBy k) = blankRow k
-rowTold n (text us replaced) = 3 ∷ n ∷ length us ∷ replaced ∷ []
+unfoldable pub titleRow : ℕ → TitleTold → List ℕ
+titleRow n noTitle = blankRow 1
+titleRow n noStrings = blankRow 2
+titleRow n (refusedBy k) = blankRow k
+titleRow n (text us replaced) = 3 ∷ n ∷ length us ∷ replaced ∷ []
 
 -- ---- the titles of k events, the first of which begins at a
 -- their units, one after the other
@@ -70,10 +67,10 @@ unitsFrom s zero a = []
 unitsFrom s (suc k) a = unitsTold (titleTold s a) ++ unitsFrom s k (eventEnd s a)
 
 -- their rows, where the units of the first begin at n: the eight numbers of the event, and the four of its title
-unfoldable pub rowsFrom : List ℕ → ℕ → ℕ → ℕ → List ℕ
-rowsFrom s n zero a = []
-rowsFrom s n (suc k) a =
-    (eventRow s a ++ rowTold n (titleTold s a)) ++ rowsFrom s (n + length (unitsTold (titleTold s a))) k (eventEnd s a)
+unfoldable pub titleRowsFrom : List ℕ → ℕ → ℕ → ℕ → List ℕ
+titleRowsFrom s n zero a = []
+titleRowsFrom s n (suc k) a =
+    (eventRow s a ++ titleRow n (titleTold s a)) ++ titleRowsFrom s (n + length (unitsTold (titleTold s a))) k (eventEnd s a)
 
 -- ---- a section
 -- how many events it has, and where the first begins
@@ -89,21 +86,21 @@ pub record Counts : Type 0 where
   pub units : ℕ
 
 -- 12 where one of the two lists has no room: exactly enough is enough
-unfoldable pub roomFor : Counts → ℕ → ℕ → Outcome Counts
-roomFor c rows units = ifLt rows (12 * c .events) (refused 12) (ifLt units (c .units) (refused 12) (result c))
+unfoldable pub roomForTitles : Counts → ℕ → ℕ → Outcome Counts
+roomForTitles c rows units = ifLt rows (12 * c .events) (refused 12) (ifLt units (c .units) (refused 12) (result c))
 
 -- of a section that was judged, in lists of these lengths
 unfoldable pub titlesIn : List ℕ → ℕ → ℕ → Outcome Counts
 titlesIn s rows units =
-    roomFor (record { events = eventCount s; units = length (unitsFrom s (eventCount s) firstEvent) }) rows units
+    roomForTitles (record { events = eventCount s; units = length (unitsFrom s (eventCount s) firstEvent) }) rows units
 
 unfoldable pub titlesOf : List ℕ → ℕ → ℕ → Outcome Counts
 titlesOf s rows units = after (sectionBy (onlyOf Eit) s) (λ h. titlesIn s rows units)
 
 -- the two lists afterwards: what was asked for is stored from the beginning on, and nothing else changes
-unfoldable pub withRows : List ℕ → Outcome Counts → List ℕ → List ℕ
-withRows s (refused k) l = l
-withRows s (result c) l = sets l 0 (rowsFrom s 0 (c .events) firstEvent)
+unfoldable pub withTitleRows : List ℕ → Outcome Counts → List ℕ → List ℕ
+withTitleRows s (refused k) l = l
+withTitleRows s (result c) l = sets l 0 (titleRowsFrom s 0 (c .events) firstEvent)
 
 unfoldable pub withUnits : List ℕ → Outcome Counts → List ℕ → List ℕ
 withUnits s (refused k) l = l

@@ -20,7 +20,7 @@ ghost use Prim.Native.Nat.{_*_, _<_, _≤_};
 ghost use lib.ListN.{length};
 ghost use lib.Seq.{sets};
 ghost use Rattle.eit.specs.Inner.{Events};
-ghost use Rattle.titles.specs.Titles.{eventCount, firstEvent, unitsFrom, rowsFrom, titlesIn, titlesOf, withRows, withUnits, titlesOutcome};
+ghost use Rattle.titles.specs.Titles.{eventCount, firstEvent, unitsFrom, titleRowsFrom, titlesIn, titlesOf, withTitleRows, withUnits, titlesOutcome};
 pub use title::NO_STRINGS;
 pub use title::NO_TITLE;
 pub use title::NO_VALUE;
@@ -73,7 +73,7 @@ fn put_titles(
 ) -> usize
     requires { ⌜ (Events (now s) k from × (length (now o) ≡ 2040)) × ((12 * k ≤ length (now rows)) × (length (unitsFrom (now s) k from) ≤ length (now units))) ⌝ }
     ensures counts { λ r. ⌜ r ≡ length (unitsFrom (now (s .entry)) k from) ⌝ }
-    ensures rows { λ _. ⌜ now (rows .exit) ≡ sets (now (rows .entry)) 0 (rowsFrom (now (s .entry)) 0 k from) ⌝ }
+    ensures rows { λ _. ⌜ now (rows .exit) ≡ sets (now (rows .entry)) 0 (titleRowsFrom (now (s .entry)) 0 k from) ⌝ }
     ensures units { λ _. ⌜ now (units .exit) ≡ sets (now (units .entry)) 0 (unitsFrom (now (s .entry)) k from) ⌝ }
 {
     let mut a = from;
@@ -94,7 +94,7 @@ fn put_titles(
 fn titles_in(s: &[u8], rows: &mut [u32], units: &mut [u16]) -> TitlesAnswer
     requires { ⌜ Events (now s) (eventCount (now s)) firstEvent ⌝ }
     ensures told { λ r. ⌜ titlesOutcome r ≡ titlesIn (now (s .entry)) (length (now (rows .entry))) (length (now (units .entry))) ⌝ }
-    ensures rows { λ _. ⌜ now (rows .exit) ≡ withRows (now (s .entry)) (titlesIn (now (s .entry)) (length (now (rows .entry))) (length (now (units .entry)))) (now (rows .entry)) ⌝ }
+    ensures rows { λ _. ⌜ now (rows .exit) ≡ withTitleRows (now (s .entry)) (titlesIn (now (s .entry)) (length (now (rows .entry))) (length (now (units .entry)))) (now (rows .entry)) ⌝ }
     ensures units { λ _. ⌜ now (units .exit) ≡ withUnits (now (s .entry)) (titlesIn (now (s .entry)) (length (now (rows .entry))) (length (now (units .entry)))) (now (units .entry)) ⌝ }
 {
     let at = body_start(Kind::Eit);
@@ -117,7 +117,7 @@ fn titles_in(s: &[u8], rows: &mut [u32], units: &mut [u16]) -> TitlesAnswer
 // All events, and their titles' first strings.
 pub fn titles(s: &[u8], rows: &mut [u32], units: &mut [u16]) -> TitlesAnswer
     ensures told { λ r. ⌜ titlesOutcome r ≡ titlesOf (now (s .entry)) (length (now (rows .entry))) (length (now (units .entry))) ⌝ }
-    ensures rows { λ _. ⌜ now (rows .exit) ≡ withRows (now (s .entry)) (titlesOf (now (s .entry)) (length (now (rows .entry))) (length (now (units .entry)))) (now (rows .entry)) ⌝ }
+    ensures rows { λ _. ⌜ now (rows .exit) ≡ withTitleRows (now (s .entry)) (titlesOf (now (s .entry)) (length (now (rows .entry))) (length (now (units .entry)))) (now (rows .entry)) ⌝ }
     ensures units { λ _. ⌜ now (units .exit) ≡ withUnits (now (s .entry)) (titlesOf (now (s .entry)) (length (now (rows .entry))) (length (now (units .entry)))) (now (units .entry)) ⌝ }
 {
     match judge_kind(s, Kind::Eit) {

@@ -16,8 +16,8 @@ ghost use lib.ListN.{length};
 ghost use lib.Seq.{sets};
 ghost use Rattle.refusal.specs.Numbers.{numberOf};
 ghost use Rattle.eit.specs.declared.event.Title;
-ghost use Rattle.titles.specs.Titles.{toldOf, titleTold, unitsTold, blankRow, rowTold};
-ghost use Rattle.titles.specs.Inner.{Read, countOf, replacedIn, rowOf};
+ghost use Rattle.titles.specs.Titles.{toldOf, titleTold, unitsTold, blankRow, titleRow};
+ghost use Rattle.titles.specs.Inner.{Read, unitCount, replacedIn, rowOf};
 
 // The sorts of a title in its row; one whose text is refused has the refusal's number for its sort.
 pub const NO_TITLE: u32 = 1;
@@ -63,7 +63,7 @@ pub fn read_title(s: &[u8], a: usize, o: &mut [u16; 2040]) -> Found
 
 // How many units it has.
 pub fn units_of(t: Found) -> usize
-    ensures { λ r. ⌜ r ≡ countOf t ⌝ }
+    ensures { λ r. ⌜ r ≡ unitCount t ⌝ }
 {
     match t {
         Found::NoTitle => 0,
@@ -89,7 +89,7 @@ fn number_of(k: Refusal) -> u32
 
 // The four numbers of a title whose units begin at n, from p on.
 fn put_found(t: Found, n: usize, p: usize, rows: &mut [u32])
-    requires { ⌜ ((n < 4294967296) × ((countOf t ≤ 2040) × (replacedIn t < 256))) × (p + 4 ≤ length (now rows)) ⌝ }
+    requires { ⌜ ((n < 4294967296) × ((unitCount t ≤ 2040) × (replacedIn t < 256))) × (p + 4 ≤ length (now rows)) ⌝ }
     ensures { λ _. ⌜ now (rows .exit) ≡ sets (now (rows .entry)) p (rowOf n t) ⌝ }
 {
     match t {
@@ -119,7 +119,7 @@ pub fn put_title(
 ) -> usize
     requires { ⌜ ((a ≤ length (now s)) × (length (now o) ≡ 2040)) × ((p + 4 ≤ length (now rows)) × ((n < 4294967296) × (n + length (unitsTold (titleTold (now s) a)) ≤ length (now units)))) ⌝ }
     ensures next { λ r. ⌜ r ≡ n + length (unitsTold (titleTold (now (s .entry)) a)) ⌝ }
-    ensures rows { λ _. ⌜ now (rows .exit) ≡ sets (now (rows .entry)) p (rowTold n (titleTold (now (s .entry)) a)) ⌝ }
+    ensures rows { λ _. ⌜ now (rows .exit) ≡ sets (now (rows .entry)) p (titleRow n (titleTold (now (s .entry)) a)) ⌝ }
     ensures units { λ _. ⌜ now (units .exit) ≡ sets (now (units .entry)) n (unitsTold (titleTold (now (s .entry)) a)) ⌝ }
     ensures keeps { λ _. ⌜ length (now (o .exit)) ≡ 2040 ⌝ }
 {

@@ -24,5 +24,6 @@ tvctFormat =
     (λ x. record { channels = x .0 .1; r = x .1 .0 .0; descs = x .1 .1 })
     (λ x. refl) (λ y. refl)
 
+-- the same walk, shut, which the code is held to (law `same-walk`)
 unfoldable pub tvct : Filling One
 tvct = exact (seq channels (list10 noTag))

@@ -14,7 +14,7 @@ use Rattle.refusal.specs.Outputs.{counted}
 use Rattle.refusal.proofs.OutputLaws.{from-number}
 use Rattle.kind.specs.declared.Kind.the-variants.{Eit}
 use Rattle.format.specs.Lawful.{encs}
-use Rattle.format.specs.Formats.{any}
+use Rattle.format.specs.Formats.{anyBytes}
 use Rattle.format.specs.Laws.OfValues.{bytes-length}
 use Rattle.format.specs.Values.{bytesOf}
 use Rattle.eit.specs.Format.{eventOf, eitOf}
@@ -26,7 +26,8 @@ use Rattle.section.specs.Writing.{headerGiven, headerFits}
 use Rattle.section.proofs.EncodingLaws.{encoded-size}
 use Rattle.writing.specs.Written.{eitBytes, wholeRows, eitWritten}
 use Rattle.writing.specs.Inner.{EitFits}
-use Rattle.writing.proofs.TestLaws.{went-on, has-room}
+use Rattle.refusal.proofs.OutcomeLaws.{went-on}
+use Rattle.writing.proofs.TestLaws.{has-room}
 
 -- where there are as many rows as are counted, all are whole
 pub all-whole : (count : ℕ) (rows : List ℕ) → length rows ≡ 8 * count → wholeRows count rows ≡ count
@@ -49,16 +50,16 @@ module _ (g : Given) (count : ℕ) (rows bytes : List ℕ) where
       (record { inside = omega arith; fits = rw (all-whole count rows l) at r; sound = and-right _ _ s }, omega arith)
 
   pub body-length : rowsSound rows bytes count 0 ≡ true
-      → length (eitOf any any .enc (record { events = eventsGiven rows bytes count 0 })) ≡ sizeGiven rows count 0 + 1
+      → length (eitOf anyBytes anyBytes .enc (record { events = eventsGiven rows bytes count 0 })) ≡ sizeGiven rows count 0 + 1
   body-length s =
       let n = 0 + length (eventsGiven rows bytes count 0) in
-      let l = length-append (bytesOf 1 n) (encs (eventOf any any .enc) (eventsGiven rows bytes count 0)) in
+      let l = length-append (bytesOf 1 n) (encs (eventOf anyBytes anyBytes .enc) (eventsGiven rows bytes count 0)) in
       omega (arith, l, bytes-length 1 n, events-length rows bytes count 0 s)
 
   pub eit-length : rowsSound rows bytes count 0 ≡ true → length (eitBytes g count rows bytes) ≡ sizeGiven rows count 0 + 14
   unfolding eitBytes
   eit-length s =
-      let z = encoded-size Eit (headerGiven g) (eitOf any any .enc (record { events = eventsGiven rows bytes count 0 })) in
+      let z = encoded-size Eit (headerGiven g) (eitOf anyBytes anyBytes .enc (record { events = eventsGiven rows bytes count 0 })) in
       omega (arith, z, body-length s)
 
   -- a length was answered: the tests have passed, and the section is the result
@@ -71,7 +72,7 @@ module _ (g : Given) (count : ℕ) (rows bytes : List ℕ) where
       let b = went-on 8 _ _ (x .0) (a .1) in
       let c = went-on 9 _ _ (x .0) (b .1) in
       let r = rows-passed refl (ap not (a .0)) refl (ap not (c .0)) in
-      let body = eitOf any any .enc (record { events = eventsGiven rows bytes count 0 }) in
+      let body = eitOf anyBytes anyBytes .enc (record { events = eventsGiven rows bytes count 0 }) in
       let l = body-length (r .0 .sound) in
       let f = has-room Eit g body (sizeGiven rows count 0 + 1) room (omega arith) l (x .0) (and-left _ _ (a .0)) (c .1) in (
         record {

@@ -10,11 +10,11 @@ use borrow.Author.Tests.{lt-ltb, le-ltb, ltb-true, lt-leb}
 use Rattle.logic.specs.Loops.{_&_}
 use Rattle.logic.proofs.LoopLaws.{and-left, and-right}
 use Rattle.bytes_at.specs.declared.Walk.{Walk}
-use Rattle.refusal.specs.Outcomes.{refused, result}
+use Rattle.refusal.specs.Outcomes.{refused, result, orRefuse}
 use Rattle.refusal.specs.Outputs.{counted}
 use Rattle.refusal.proofs.OutputLaws.{from-number}
 use Rattle.kind.specs.declared.Kind.the-variants.{Ett}
-use Rattle.format.specs.Formats.{any, walksAll}
+use Rattle.format.specs.Formats.{anyBytes, walksAll}
 use Rattle.strings.specs.Strings.{text}
 use Rattle.eit.specs.Given.{stands}
 use Rattle.ett.specs.Format.{ettOf}
@@ -22,17 +22,18 @@ use Rattle.ett.proofs.WritingLaws.{body-size}
 use Rattle.section.specs.declared.write.Given.{Given}
 use Rattle.section.specs.Writing.{headerGiven, lengthFits}
 use Rattle.section.proofs.EncodingLaws.{encoded-size}
-use Rattle.writing.specs.Written.{orRefuse, ettBytes, ettWritten}
+use Rattle.writing.specs.Written.{ettBytes, ettWritten}
 use Rattle.writing.specs.Inner.{Fits}
-use Rattle.writing.proofs.TestLaws.{went-on, has-room}
+use Rattle.refusal.proofs.OutcomeLaws.{went-on}
+use Rattle.writing.proofs.TestLaws.{has-room}
 
 module _ (g : Given) (etm : ℕ) (t : List ℕ) where
-  pub body-length : length (ettOf any .enc (record { etm = etm; text = t })) ≡ length t + 4
+  pub body-length : length (ettOf anyBytes .enc (record { etm = etm; text = t })) ≡ length t + 4
   body-length = omega (arith, body-size etm t)
 
   pub ett-length : length (ettBytes g etm t) ≡ length t + 17
   unfolding ettBytes
-  ett-length = omega (arith, encoded-size Ett (headerGiven g) (ettOf any .enc (record { etm = etm; text = t })), body-length)
+  ett-length = omega (arith, encoded-size Ett (headerGiven g) (ettOf anyBytes .enc (record { etm = etm; text = t })), body-length)
 
   -- a length was answered: the tests have passed, and the section is the result
   pub ett-passed : (room n : ℕ) → result n ≡ counted (ettWritten g etm t room)
@@ -43,7 +44,7 @@ module _ (g : Given) (etm : ℕ) (t : List ℕ) where
       let a = went-on 23 _ _ (x .0) (x .1 .0) in
       let b = went-on 8 _ _ (x .0) (a .1) in
       let c = went-on 9 _ _ (x .0) (b .1) in
-      let body = ettOf any .enc (record { etm = etm; text = t }) in
+      let body = ettOf anyBytes .enc (record { etm = etm; text = t }) in
       let f = has-room Ett g body (length t + 4) room (omega arith) body-length (x .0) (and-left _ _ (a .0)) (c .1) in
       ((f .0, ltb-true _ _ (and-right _ _ (a .0))), x .1 .0 ∙ ap result (sym (f .1)))
 

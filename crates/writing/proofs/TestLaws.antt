@@ -7,16 +7,16 @@ use native.Mathlib.Omega.{arith}
 use lib.ListN.{length}
 use borrow.Author.Tests.{leb-true, not-true, not-false}
 use Rattle.logic.proofs.LoopLaws.{and-left, and-right}
-use Rattle.refusal.specs.Outcomes.{Outcome, refused, result, after}
+use Rattle.refusal.specs.Outcomes.{Outcome, refused, result, after, orRefuse}
 use Rattle.refusal.specs.Outputs.{counted}
-use Rattle.refusal.proofs.OutcomeLaws.{same-result, not-both}
+use Rattle.refusal.proofs.OutcomeLaws.{same-result, went-on}
 use Rattle.kind.specs.declared.Kind.{Kind}
 use Rattle.kind.specs.Kinds.{limitsOf}
 use Rattle.section.specs.declared.write.Given.{Given}
 use Rattle.section.specs.Encoding.{encodeWith}
 use Rattle.section.specs.Writing.{headerGiven, headerFits, lengthFits}
 use Rattle.section.proofs.EncodingLaws.{encoded-size}
-use Rattle.writing.specs.Written.{orRefuse, allowed}
+use Rattle.writing.specs.Written.{allowed}
 use Rattle.writing.specs.Inner.{Fits}
 
 -- ---- one test, as the code has it, and those behind it
@@ -28,12 +28,6 @@ module _ (n : ℕ) (b : Bool) (o : Outcome (List ℕ)) {t : Bool} (told : t ≡ 
   pub goes-on : {x : Outcome ℕ} → not t ≡ false → x ≡ counted o → x ≡ counted (orRefuse n b o)
   unfolding orRefuse
   goes-on e f = rw (sym told ∙ not-false t e) f
-
--- what came to a result has passed
-pub went-on : (n : ℕ) (b : Bool) (o : Outcome (List ℕ)) (s : List ℕ) → orRefuse n b o ≡ result s → (b ≡ true) × (o ≡ result s)
-unfolding orRefuse
-went-on n true o s e = (refl, e)
-went-on n false o s e = not-both n s e
 
 -- ---- 24
 counted-or : (b : Bool) (s : List ℕ) → orRefuse 24 b (result (length s)) ≡ counted (orRefuse 24 b (result s))

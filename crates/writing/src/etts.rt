@@ -16,7 +16,7 @@ ghost use Prim.Native.Nat.{_+_, _<_};
 ghost use lib.Dec.{ltb};
 ghost use lib.ListN.{length};
 ghost use Rattle.logic.specs.Loops.{_&_};
-ghost use Rattle.refusal.specs.Outcomes.{result};
+ghost use Rattle.refusal.specs.Outcomes.{result, orRefuse};
 ghost use Rattle.refusal.specs.Outputs.{counted, outputAfter};
 ghost use Rattle.kind.specs.declared.Kind.the-variants.{Ett};
 ghost use Rattle.format.specs.Formats.{walksAll};
@@ -25,7 +25,7 @@ ghost use Rattle.eit.specs.Given.{stands};
 ghost use Rattle.section.specs.Writing.{headerFits, lengthFits};
 ghost use Rattle.writing.specs.Answers.{writtenOutcome};
 ghost use Rattle.writing.specs.Inner.{Fits};
-ghost use Rattle.writing.specs.Written.{orRefuse, ettBytes, ettWritten};
+ghost use Rattle.writing.specs.Written.{ettBytes, ettWritten};
 
 // 23: has each number room in its field?
 fn numbers_have_room(g: Given, etm: usize) -> bool

@@ -4,10 +4,9 @@ use kind::Kind;
 use refusal::Refusal;
 use section::write::length_fits;
 ghost use mathlib.Core.Path.{_≡_};
-ghost use Rattle.refusal.specs.Outcomes.{result};
+ghost use Rattle.refusal.specs.Outcomes.{result, orRefuse};
 ghost use Rattle.section.specs.Writing.{lengthFits};
 ghost use Rattle.writing.specs.Answers.{writtenOutcome};
-ghost use Rattle.writing.specs.Written.{orRefuse};
 
 // 24, or the n bytes that a section of this kind has.
 pub fn length_of(kind: Kind, room: usize, n: usize) -> Written

@@ -25,7 +25,7 @@ use Rattle.section.specs.Sections.{sectionBy}
 use Rattle.section.specs.Encoding.{Section, encode, WellFormed, AllOnes, headerOf}
 use Rattle.section.proofs.EncodingLaws.{encode-bytes, accepts}
 use Rattle.entry.specs.declared.Entry.the-variants.{Event}
-use Rattle.entry.specs.Entries.{countOf, firstOf}
+use Rattle.entry.specs.Entries.{entryCount, firstEntry}
 use Rattle.entry.specs.Records.{beginOf}
 use Rattle.entry.proofs.RecordLaws.{count-there, first-there, entries-stand}
 use Rattle.rows.specs.declared.Row.the-variants as row
@@ -143,7 +143,7 @@ module _ (s : List ℕ) (end : ℕ) where
       (inside-later (rowFor a e) (rowsOf b es) s (row-wide a e) (8 * i) (rows-in f b es (rest-stand eventFormat s end a e es g) i (omega arith)))
 
 -- ---- the rows that are read of a section's bytes are those of its events
-own-rows : (y : Section Eit) → WellFormed Eit y → rowsFrom row.Event (encode y) (countOf Event (encode y)) (firstOf Event (encode y)) ≡ rowsTold row.Event y
+own-rows : (y : Section Eit) → WellFormed Eit y → rowsFrom row.Event (encode y) (entryCount Event (encode y)) (firstEntry Event (encode y)) ≡ rowsTold row.Event y
 own-rows y o =
     let n = count-there Event y o in
     let a = first-there Event y o in
@@ -178,5 +178,5 @@ module _ (write : EitWriter) (w : WritesEit write) where
       let c = count-there Event y o in
       let r = own-rows y o in
       let p : h ≡ headerOf y = same-result h (headerOf y) (sym q ∙ ap (sectionBy (onlyOf Eit)) e ∙ accepts Eit y o) in
-      (λ i. write (givenOf (p i)) (countOf Event (e i)) (rowsFrom row.Event (e i) (countOf Event (e i)) (firstOf Event (e i))) (e i) room)
+      (λ i. write (givenOf (p i)) (entryCount Event (e i)) (rowsFrom row.Event (e i) (entryCount Event (e i)) (firstEntry Event (e i))) (e i) room)
       ∙ (λ i. write (givenOf (headerOf y)) (c i) (r i) (encode y) room) ∙ eit-again y o (u .1 .0 .1) room (omega arith) ∙ ap result (sym e)

@@ -11,7 +11,7 @@ use Rattle.bytes_at.specs.declared.Walk.the-variants.{To}
 use Rattle.refusal.specs.Outcomes.{result}
 use Rattle.kind.specs.declared.Kind.the-variants.{Eit}
 use Rattle.format.specs.Lawful.{Bytes, All, encs}
-use Rattle.format.specs.Formats.{Filling, One, any}
+use Rattle.format.specs.Formats.{Filling, One, anyBytes}
 use Rattle.format.specs.Values.{Fit, bytesOf}
 use Rattle.format.specs.Laws.OfBytes.{part-length}
 use Rattle.format.specs.Laws.OfValues.{bytes-length}
@@ -27,24 +27,24 @@ use Rattle.section.specs.declared.write.Given.{Given}
 use Rattle.section.specs.Encoding.{Section, encode, encodeWith}
 use Rattle.section.specs.Writing.{headerGiven}
 use Rattle.writing.specs.Written.{allowed, eitBytes, eitWritten}
-use Rattle.writing.proofs.TestLaws.{went-on}
+use Rattle.refusal.proofs.OutcomeLaws.{went-on}
 use Rattle.writing.proofs.EitLaws.{all-whole}
 use Rattle.writing_laws.specs.RoundTrips.{EncodingOf, asBytes, Inside, GivesEit, WritesEit}
 use Rattle.writing_laws.proofs.TestLaws.{passes, fitted, fits, given, well-formed, header-passes, numbers-pass, largest-holds, as-given}
 
 -- ---- events as bytes have the same bytes
-same-events : (es : List EventFields) → encs (eventOf any any .enc) (map asBytes es) ≡ encs (eventFormat .enc) es
+same-events : (es : List EventFields) → encs (eventOf anyBytes anyBytes .enc) (map asBytes es) ≡ encs (eventFormat .enc) es
 same-events [] = refl
 same-events (e ∷ es) = ap (eventFormat .enc e ++_) (same-events es)
 
-same-body : (es : List EventFields) → eitOf any any .enc (record { events = map asBytes es }) ≡ eitFormat .enc (record { events = es })
+same-body : (es : List EventFields) → eitOf anyBytes anyBytes .enc (record { events = map asBytes es }) ≡ eitFormat .enc (record { events = es })
 same-body es = let n = length-map es asBytes in let t = same-events es in λ i. bytesOf 1 (0 + n i) ++ t i
 
 same-bytes : (g : Given) (count : ℕ) (rows bytes : List ℕ) (es : List EventFields) → map asBytes es ≡ eventsGiven rows bytes count 0
     → eitBytes g count rows bytes ≡ encode (given Eit g (record { events = es }))
 unfolding eitBytes
 same-bytes g count rows bytes es e =
-    ap (encodeWith Eit (headerGiven g)) (sym (ap (λ l. eitOf any any .enc (record { events = l })) e) ∙ same-body es)
+    ap (encodeWith Eit (headerGiven g)) (sym (ap (λ l. eitOf anyBytes anyBytes .enc (record { events = l })) e) ∙ same-body es)
 
 smallest : (es : List EventFields) → 1 ≤ length (eitFormat .enc (record { events = es }))
 smallest es = omega (arith, length-append (bytesOf 1 (0 + length es)) (encs (eventFormat .enc) es), bytes-length 1 (0 + length es))

@@ -9,7 +9,7 @@ use lib.ListN.{length, length-append}
 use borrow.Author.Tests.{ltb-true, lt-ltb}
 use Rattle.logic.proofs.LoopLaws.{and-left, and-right, and-i}
 use Rattle.refusal.specs.Outcomes.{result}
-use Rattle.refusal.proofs.OutcomeLaws.{same-result}
+use Rattle.refusal.proofs.OutcomeLaws.{same-result, went-on}
 use Rattle.kind.specs.declared.Kind.the-variants.{Ett}
 use Rattle.kind.specs.Kinds.{limitsOf, onlyOf}
 use Rattle.format.specs.Lawful.{Lies, Bytes}
@@ -32,8 +32,7 @@ use Rattle.section.proofs.EncodingLaws.{body-lies, body-ends, accepts}
 use Rattle.reading.specs.Etts.{fieldsOf}
 use Rattle.section_laws.proofs.TableLaws.{ett-reads}
 use Rattle.writing.specs.Written.{allowed, ettBytes, ettWritten}
-use Rattle.writing.proofs.TestLaws.{went-on}
-use Rattle.writing_laws.specs.RoundTrips.{givenOf, EncodingOf, EttWriter, GivesEtt, WritesEtt, textPlace, ReadsBackEtt, RewritesEtt}
+use Rattle.writing_laws.specs.RoundTrips.{givenOf, EncodingOf, EttWriter, GivesEtt, WritesEtt, ettTextPlace, ReadsBackEtt, RewritesEtt}
 use Rattle.writing_laws.proofs.TestLaws.{passes, fitted, fits, given, well-formed, header-passes, numbers-pass, largest-holds, header-read, header-back}
 
 -- ---- the text
@@ -128,8 +127,8 @@ module _ (write : EttWriter) (w : WritesEtt write) where
       record {
         header = ap (sectionBy (onlyOf Ett)) (u .1 .1) ∙ accepts Ett y (v .good) ∙ ap result (header-read Ett g y h);
         fields = ap fieldsOf (u .1 .1) ∙ ett-reads .tells y (v .good)
-            ∙ (λ i. result (record { extension = h i .extension; «etm_id» = n i; text = textPlace (l i) }));
-        text = ap (λ s. bytesIn s (textPlace t)) (u .1 .1) ∙ subst (λ t. bytesIn (encode y) (textPlace t) ≡ t) l (text-lies y (v .good));
+            ∙ (λ i. result (record { extension = h i .extension; «etm_id» = n i; text = ettTextPlace (l i) }));
+        text = ap (λ s. bytesIn s (ettTextPlace t)) (u .1 .1) ∙ subst (λ t. bytesIn (encode y) (ettTextPlace t) ≡ t) l (text-lies y (v .good));
       }
 
   pub ett-again : (y : Section Ett) → WellFormed Ett y → AllOnes Ett y → (room : ℕ) → length (encode y) ≤ room

@@ -7,8 +7,8 @@ use native.Mathlib.Omega.{arith}
 use lib.ListN.{length}
 use borrow.Author.Tests.{leb-true, le-leb, lt-ltb}
 use Rattle.logic.proofs.LoopLaws.{and-left, and-right, and-i}
-use Rattle.refusal.specs.Outcomes.{Outcome, result}
-use Rattle.refusal.proofs.OutcomeLaws.{same-result}
+use Rattle.refusal.specs.Outcomes.{Outcome, result, orRefuse}
+use Rattle.refusal.proofs.OutcomeLaws.{same-result, went-on}
 use Rattle.kind.specs.declared.Kind.{Kind}
 use Rattle.kind.specs.Kinds.{limitsOf}
 use Rattle.section.specs.declared.write.Given.{Given}
@@ -18,8 +18,7 @@ use Rattle.section.specs.Writing.{headerGiven, headerFits, numbersFit, lengthFi
 use Rattle.section.proofs.EncodingLaws.{encoded-size}
 use Rattle.section.proofs.KindLaws.{known}
 use Rattle.section.proofs.WritingLaws.{header-room}
-use Rattle.writing.specs.Written.{orRefuse, allowed}
-use Rattle.writing.proofs.TestLaws.{went-on}
+use Rattle.writing.specs.Written.{allowed}
 use Rattle.writing_laws.specs.RoundTrips.{headerRead, givenOf}
 
 -- ---- what passes a test is not refused

@@ -26,7 +26,7 @@ use Rattle.section.specs.Sections.{sectionBy}
 use Rattle.section.specs.Encoding.{Section, encode, WellFormed, AllOnes}
 use Rattle.section.specs.Writing.{headerGiven}
 use Rattle.entry.specs.declared.Entry.the-variants.{Event}
-use Rattle.entry.specs.Entries.{countOf, firstOf}
+use Rattle.entry.specs.Entries.{entryCount, firstEntry}
 use Rattle.reading.specs.Eits as eits
 use Rattle.reading.specs.Etts as etts
 use Rattle.rows.specs.declared.Row.the-variants as row
@@ -67,13 +67,13 @@ WritesEtt write =
     → (write g etm t room ≡ result s) ↔ (EncodingOf (GivesEtt g etm t) s × (length s ≤ room))
 
 -- it reads as given: the header, ETM_id, and the text by its bytes
-abbrev pub textPlace : List ℕ → Part
-textPlace t = record { start = behind etmHead (limitsOf Ett .body); length = length t }
+abbrev pub ettTextPlace : List ℕ → Part
+ettTextPlace t = record { start = behind etmHead (limitsOf Ett .body); length = length t }
 
 pub record ReadsAsEtt (g : Given) (etm : ℕ) (t s : List ℕ) : Type 0 where
   pub header : sectionBy (onlyOf Ett) s ≡ result (headerRead Ett g)
-  pub fields : etts.fieldsOf s ≡ result (record { extension = g .extension; «etm_id» = etm; text = textPlace t })
-  pub text : bytesIn s (textPlace t) ≡ t
+  pub fields : etts.fieldsOf s ≡ result (record { extension = g .extension; «etm_id» = etm; text = ettTextPlace t })
+  pub text : bytesIn s (ettTextPlace t) ≡ t
 
 abbrev pub ReadsBackEtt : EttWriter → Type 0
 ReadsBackEtt write =
@@ -135,7 +135,7 @@ ReadsBackEit write =
 abbrev pub RewritesEit : EitWriter → Type 0
 RewritesEit write =
     (s : List ℕ) (h : Header) → sectionBy (onlyOf Eit) s ≡ result h → EncodingOf {k = Eit} WithOnes s → (room : ℕ) → length s ≤ room
-    → write (givenOf h) (countOf Event s) (rowsFrom row.Event s (countOf Event s) (firstOf Event s)) s room ≡ result s
+    → write (givenOf h) (entryCount Event s) (rowsFrom row.Event s (entryCount Event s) (firstEntry Event s)) s room ≡ result s
 
 -- ---- what the two writers of a library promise
 pub record Keeps (ett : EttWriter) (eit : EitWriter) : Type 0 where

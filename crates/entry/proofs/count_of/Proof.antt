@@ -1,6 +1,6 @@
 -- `count_of` meets its contract.
 use native.Mathlib.Omega.{arith}
-use Rattle.entry.specs.Entries.{countOf}
+use Rattle.entry.specs.Entries.{entryCount}
 use borrow.Author.Needs.{needs}
 use Rattle.entry.proofs.count_of.Statement.{statement}
 use Rattle.entry.proofs.count_of.Tie as tie
@@ -44,19 +44,19 @@ count-requires-4 : tie.Need-count-requires-4
 count-requires-4 c κs = search needs
 
 returns : tie.Need-returns
-unfolding countOf
+unfolding entryCount
 returns c = rw (c .before .before .enum-told .given .1) (rw (c .before .body-start .ensures .0) at (c .count .ensures .0))
 
 returns-2 : tie.Need-returns-2
-unfolding countOf
+unfolding entryCount
 returns-2 c = rw (c .before .before .enum-told2 .given .1) (rw (c .before .body-start2 .ensures .0) at (c .count2 .ensures .0))
 
 returns-3 : tie.Need-returns-3
-unfolding countOf
+unfolding entryCount
 returns-3 c = rw (c .before .before .enum-told3 .given .1) (rw (c .before .body-start3 .ensures .0) at (c .count3 .ensures .0))
 
 returns-4 : tie.Need-returns-4
-unfolding countOf
+unfolding entryCount
 returns-4 c = rw (c .before .before .enum-told4 .given .1) (rw (c .before .body-start4 .ensures .0) at (c .count4 .ensures .0))
 
 pub count-of-spec : {M : Type 1} → statement M

@@ -1,6 +1,6 @@
 -- `first_of` meets its contract.
 use native.Mathlib.Omega.{arith}
-use Rattle.entry.specs.Entries.{firstOf}
+use Rattle.entry.specs.Entries.{firstEntry}
 use borrow.Author.Needs.{needs}
 use Rattle.entry.proofs.first_of.Statement.{statement}
 use Rattle.entry.proofs.first_of.Tie as tie
@@ -44,19 +44,19 @@ first-requires-4 : tie.Need-first-requires-4
 first-requires-4 c κs = search needs
 
 returns : tie.Need-returns
-unfolding firstOf
+unfolding firstEntry
 returns c = rw (c .before .before .enum-told .given .1) (rw (c .before .body-start .ensures .0) at (c .first .ensures))
 
 returns-2 : tie.Need-returns-2
-unfolding firstOf
+unfolding firstEntry
 returns-2 c = rw (c .before .before .enum-told2 .given .1) (rw (c .before .body-start2 .ensures .0) at (c .first2 .ensures))
 
 returns-3 : tie.Need-returns-3
-unfolding firstOf
+unfolding firstEntry
 returns-3 c = rw (c .before .before .enum-told3 .given .1) (rw (c .before .body-start3 .ensures .0) at (c .first3 .ensures))
 
 returns-4 : tie.Need-returns-4
-unfolding firstOf
+unfolding firstEntry
 returns-4 c = rw (c .before .before .enum-told4 .given .1) (rw (c .before .body-start4 .ensures .0) at (c .first4 .ensures))
 
 pub first-of-spec : {M : Type 1} → statement M

@@ -1,5 +1,6 @@
 -- `spot_past` meets its contract.
 use mathlib.Core.Path.{sym, _∙_}
+use Rattle.bytes_at.specs.Walks.{standing}
 use Rattle.entry.proofs.EntryLaws.{entries-inside}
 use borrow.Author.Needs.{needs}
 use Rattle.entry.proofs.spot_past.Statement.{statement}
@@ -15,6 +16,7 @@ enum-known--x : tie.Need-enum-known--x
 enum-known--x c = search needs
 
 returns : tie.Need-returns
+unfolding standing
 returns c =
     let p = c .before .before .before in
     let a = p .before .before .args in (
@@ -23,6 +25,7 @@ returns c =
     )
 
 returns-2 : tie.Need-returns-2
+unfolding standing
 returns-2 c = (rw (← c .before .before .before .past .ensures, c .before .-x .given .1), record {})
 
 pub spot-past-spec : {M : Type 1} → statement M

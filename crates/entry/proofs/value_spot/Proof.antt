@@ -2,6 +2,7 @@
 use Prim.Native.Nat.{_<_}
 use mathlib.Core.Path.{refl, sym, _∙_}
 use native.Mathlib.Omega.{arith}
+use Rattle.bytes_at.specs.Walks.{standing}
 use Rattle.logic.proofs.ChoiceLaws.{lt-yes, lt-no}
 use Rattle.rrt.specs.Fields.{valuesAt}
 use Rattle.entry.specs.Entries.{valueSpot}
@@ -29,7 +30,7 @@ enum-known--x : tie.Need-enum-known--x
 enum-known--x c = search needs
 
 returns : tie.Need-returns
-unfolding valueSpot
+unfolding valueSpot standing
 returns c =
     let v = c .before .before .before in
     let n = v .before .before .before .before in
@@ -39,7 +40,7 @@ returns c =
     (lt-yes _ _ _ _ l (rw (← e, c .before .a .given .1)), values-inside (a .s .now) (a .d) (a .j) _ l (sym e ∙ c .before .a .given .1))
 
 returns-2 : tie.Need-returns-2
-unfolding valueSpot
+unfolding valueSpot standing
 returns-2 c =
     let v = c .before .before .before in
     let n = v .before .before .before .before in

@@ -1,6 +1,6 @@
 -- `advisory_text_in` meets its contract: what is found from here on is the whole answer.
 use Rattle.rating.proofs.FirstLaws.{stands, first-past, first-here, first-next}
-use Rattle.rating.specs.Ratings.{descriptorSize, first, regionIn, textAt, textIn}
+use Rattle.rating.specs.Ratings.{descriptorSize, firstMatch, regionIn, regionTextAt, textIn}
 use Rattle.descriptor.specs.Descriptors.{contentAdvisory}
 use native.Mathlib.Omega.{arith}
 use mathlib.Core.Option.{none}
@@ -12,7 +12,7 @@ use Rattle.rating.proofs.advisory_text_in.Tie as tie
 abbrev Inv-loop : tie.InvT-loop
 Inv-loop s region end from at₀ at =
     (f : ℕ) × ((end ≤ at + f)
-    × (first s (descriptorSize s) f end at contentAdvisory (λ a. regionIn s region a (textAt s) none) none ≡ textIn s region end from))
+    × (firstMatch s (descriptorSize s) f end at contentAdvisory (λ a. regionIn s region a (regionTextAt s) none) none ≡ textIn s region end from))
 
 abbrev μ-loop : tie.MeasureT-loop
 μ-loop s region end from at₀ at = end - at
@@ -51,7 +51,7 @@ returns-2 : tie.Need-returns-2 Inv-loop μ-loop
 returns-2 c = let b = c .before .before .before in let z = b .before .before .before in let o = z .before .loop in
     let s = z .before .before .before .args .s .now in
     let region = z .before .before .before .args .region in
-    _∙_ {b = regionIn s region (o .at) (textAt s) none}
+    _∙_ {b = regionIn s region (o .at) (regionTextAt s) none}
     (rw (c .before .ahead .ensures .0, z .descriptor-size .ensures .0) at (c .text-of-first .ensures))
     (first-here _ _ _ (o .at) _ _ _ _ (z .descriptor-size .ensures .0) _ (b .byte .ensures .0)
     (omega arith) (o .inv .0) (omega (arith, o .inv .1 .0)) (c .before .before .if2 .taken)

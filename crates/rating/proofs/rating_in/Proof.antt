@@ -1,6 +1,6 @@
 -- `rating_in` meets its contract: at every turn, what is found from here on is the whole answer.
 use Rattle.rating.proofs.FirstLaws.{stands, dimensions-fit, first-none, first-past, first-here, first-next}
-use Rattle.rating.specs.Ratings.{noAdvisory, regionAbsent, dimensionAbsent, value, descriptorSize, regionSize, first, ratedByRegion, ratedByAdvisory, ratingIn}
+use Rattle.rating.specs.Ratings.{noAdvisory, regionAbsent, dimensionAbsent, value, descriptorSize, regionSize, firstMatch, ratedByRegion, ratedByAdvisory, ratingIn}
 use Rattle.descriptor.specs.Descriptors.{contentAdvisory}
 use Rattle.bytes_at.specs.Fields.{byteAt}
 use native.Mathlib.Omega.{arith}
@@ -11,7 +11,7 @@ use Rattle.rating.proofs.rating_in.Tie as tie
 
 abbrev Inv-loop2 : tie.InvT-loop2
 Inv-loop2 s region dimension end from at size close regions p taken dimensions₀ q₀ dimensions q =
-    (first s (λ q. 2) dimensions (p + regionSize s p) q dimension (λ q. value (byteAt s (q + 1) % 16)) dimensionAbsent
+    (firstMatch s (λ q. 2) dimensions (p + regionSize s p) q dimension (λ q. value (byteAt s (q + 1) % 16)) dimensionAbsent
     ≡ ratingIn s region dimension end from)
     × (q + 2 * dimensions ≤ p + regionSize s p)
 
@@ -20,7 +20,7 @@ abbrev μ-loop2 : tie.MeasureT-loop2
 
 abbrev Inv-loop : tie.InvT-loop
 Inv-loop s region dimension end from at size close regions₀ p₀ regions p =
-    first s (regionSize s) regions close p region (ratedByRegion s dimension) regionAbsent
+    firstMatch s (regionSize s) regions close p region (ratedByRegion s dimension) regionAbsent
     ≡ ratingIn s region dimension end from
 
 abbrev μ-loop : tie.MeasureT-loop
@@ -29,7 +29,7 @@ abbrev μ-loop : tie.MeasureT-loop
 abbrev Inv-search : tie.InvT-search
 Inv-search s region dimension end from at₀ at =
     (f : ℕ) × ((end ≤ at + f)
-    × (first s (descriptorSize s) f end at contentAdvisory (ratedByAdvisory s region dimension) noAdvisory
+    × (firstMatch s (descriptorSize s) f end at contentAdvisory (ratedByAdvisory s region dimension) noAdvisory
     ≡ ratingIn s region dimension end from))
 
 abbrev μ-search : tie.MeasureT-search

@@ -1,6 +1,6 @@
 -- `text_of_first` meets its contract: the regions that are left lead to the answer.
 use Rattle.rating.proofs.FirstLaws.{first-none, first-past, first-here, first-next}
-use Rattle.rating.specs.Ratings.{regionSize, first, textAt}
+use Rattle.rating.specs.Ratings.{regionSize, firstMatch, regionTextAt}
 use native.Mathlib.Omega.{arith}
 use mathlib.Core.Option.{none}
 use mathlib.Core.Path.{_≡_, refl, _∙_}
@@ -9,7 +9,7 @@ use Rattle.rating.proofs.text_of_first.Tie as tie
 
 abbrev Inv-loop : tie.InvT-loop
 Inv-loop s region n close from at₀ left₀ at left =
-    first s (regionSize s) left close at region (textAt s) none ≡ first s (regionSize s) n close from region (textAt s) none
+    firstMatch s (regionSize s) left close at region (regionTextAt s) none ≡ firstMatch s (regionSize s) n close from region (regionTextAt s) none
 
 abbrev μ-loop : tie.MeasureT-loop
 μ-loop s region n close from at₀ left₀ at left = left

@@ -4,14 +4,14 @@ use native.Mathlib.Omega.{arith}
 use borrow.Author.Needs.{needs}
 use lib.ListN.{length}
 use lib.Seq.{sets}
-use Rattle.titles.specs.Titles.{unitsFrom, rowsFrom}
+use Rattle.titles.specs.Titles.{unitsFrom, titleRowsFrom}
 use Rattle.titles.proofs.TitlesLaws.{TitlesLeft, units-few, count-done, row-room, units-room, titles-step, rows-done, units-done}
 use Rattle.titles.proofs.put_titles.Statement.{statement}
 use Rattle.titles.proofs.put_titles.Tie as tie
 
 abbrev Inv-loop : tie.InvT-loop
 Inv-loop s k from o₀ rows₀ units₀ a₀ p₀ n₀ left₀ o rows units a p n left =
-    TitlesLeft s (length (unitsFrom s k from)) rows₀ (sets rows₀ 0 (rowsFrom s 0 k from)) units₀ (sets units₀ 0 (unitsFrom s k from)) o rows units a p n left
+    TitlesLeft s (length (unitsFrom s k from)) rows₀ (sets rows₀ 0 (titleRowsFrom s 0 k from)) units₀ (sets units₀ 0 (unitsFrom s k from)) o rows units a p n left
 
 abbrev μ-loop : tie.MeasureT-loop
 μ-loop s k from o₀ rows₀ units₀ a₀ p₀ n₀ left₀ o rows units a p n left = left

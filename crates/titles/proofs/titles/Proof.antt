@@ -2,7 +2,7 @@
 use mathlib.Core.Path.{sym, ap, _∙_}
 use Rattle.refusal.specs.Outcomes.{after}
 use Rattle.section.specs.Headers.{headOutcome}
-use Rattle.titles.specs.Titles.{titlesOf, withRows, withUnits}
+use Rattle.titles.specs.Titles.{titlesOf, withTitleRows, withUnits}
 use Rattle.titles.proofs.TitlesLaws.{judged-events}
 use borrow.Author.Needs.{needs}
 use Rattle.titles.proofs.titles.Statement.{statement}
@@ -23,7 +23,7 @@ titles-in-requires c κs =
     judged-events _ _ e
 
 returns : tie.Need-returns
-unfolding titlesOf after withRows withUnits
+unfolding titlesOf after withTitleRows withUnits
 returns c =
     let e = sym (c .before .before .before .judge-kind .ensures) ∙ ap headOutcome (c .before .k .given .1) in
     (rw e, (rw e, rw e))

@@ -1,5 +1,5 @@
 -- `descriptor_at` meets its contract.
-use Rattle.eit.specs.Questions.{descriptorAt}
+use Rattle.eit.specs.Questions.{eventDescriptor}
 use borrow.Author.Needs.{needs}
 use Rattle.eit.proofs.ask.descriptor_at.Statement.{statement}
 use Rattle.eit.proofs.ask.descriptor_at.Tie as tie
@@ -14,7 +14,7 @@ descriptor-in-requires : tie.Need-descriptor-in-requires
 descriptor-in-requires c κs = search needs
 
 returns : tie.Need-returns
-unfolding descriptorAt
+unfolding eventDescriptor
 returns c = rw (c .before .before .descriptors-at .ensures .0) at (c .descriptor-in .ensures)
 
 pub descriptor-at-spec : {M : Type 1} → statement M

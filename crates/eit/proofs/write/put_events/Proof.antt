@@ -4,7 +4,7 @@ use native.Mathlib.Omega.{arith}
 use lib.ListN.{length}
 use lib.Seq.{sets}
 use Rattle.format.specs.Lawful.{encs}
-use Rattle.format.specs.Formats.{any}
+use Rattle.format.specs.Formats.{anyBytes}
 use Rattle.eit.specs.Format.{eventOf}
 use Rattle.eit.specs.Given.{eventsGiven}
 use Rattle.eit.proofs.WriteLaws.{EventsLeft, event-left, events-step, events-done}
@@ -14,7 +14,7 @@ use Rattle.eit.proofs.write.put_events.Tie as tie
 
 abbrev Inv-loop : tie.InvT-loop
 Inv-loop rows n bytes out₀ at a₀ next₀ left₀ out a next left =
-    EventsLeft rows bytes (length out₀) (sets out₀ at (encs (eventOf any any .enc) (eventsGiven rows bytes n 0))) out a next left
+    EventsLeft rows bytes (length out₀) (sets out₀ at (encs (eventOf anyBytes anyBytes .enc) (eventsGiven rows bytes n 0))) out a next left
 
 abbrev μ-loop : tie.MeasureT-loop
 μ-loop rows n bytes out₀ at a₀ next₀ left₀ out a next left = left

@@ -1,5 +1,5 @@
 -- `guide_field_text` meets its contract.
-use Rattle.guide.proofs.ToldLaws.{told-as}
+use Rattle.telling.proofs.ToldLaws.{told-as}
 use borrow.Author.Needs.{needs}
 use Rattle.guide.proofs.fields.guide_field_text.Statement.{statement}
 use Rattle.guide.proofs.fields.guide_field_text.Tie as tie

@@ -1,44 +1,18 @@
 -- `guide_mgt` meets its contract.
 use borrow.Author.Needs.{needs}
-use mathlib.Core.Path.{refl, _∙_, sym}
-use Rattle.row.specs.Rows.{partRow}
-use Rattle.guide.specs.Tables.{mgtNumbers}
-use Rattle.guide.proofs.ToldLaws.{told-refused, told-result}
+use Rattle.telling.proofs.ToldLaws.{told-as}
 use Rattle.guide.proofs.tables.guide_mgt.Statement.{statement}
 use Rattle.guide.proofs.tables.guide_mgt.Tie as tie
 
 fields-requires : tie.Need-fields-requires
 fields-requires c κs = search needs
 
-enum-known-k : tie.Need-enum-known-k
-enum-known-k c = search needs
-
-number-of-requires : tie.Need-number-of-requires
-number-of-requires c κs = search needs
-
-enum-known-t : tie.Need-enum-known-t
-enum-known-t c = search needs
-
-three-requires : tie.Need-three-requires
-three-requires c κs = search needs
+tell-mgt-requires : tie.Need-tell-mgt-requires
+tell-mgt-requires c κs = search needs
 
 returns : tie.Need-returns
-returns c = let k = c .before .before in
-    told-refused _ _ _ _ _ (sym (k .before .before .fields .ensures) ∙ rw (k .k .given .1)) (c .number-of .ensures)
-
-returns-2 : tie.Need-returns-2
-unfolding mgtNumbers partRow
-returns-2 c = let k = c .before .before .before in
-    told-result _ _ _ _ (k .t .given .0 .0) _ (sym (k .before .before .fields .ensures) ∙ rw (k .t .given .1)) refl (c .three .ensures)
+returns c = told-as (c .before .before .fields .ensures) (c .tell-mgt .ensures)
 
 pub guide-mgt-spec : {M : Type 1} → statement M
 guide-mgt-spec =
-    tie.close
-    (tie.spec
-    fields-requires
-    enum-known-k
-    number-of-requires
-    enum-known-t
-    three-requires
-    returns
-    returns-2)
+    tie.close (tie.spec fields-requires tell-mgt-requires returns)

@@ -1,6 +1,6 @@
 -- `guide_heading` meets its contract.
-use Rattle.guide.proofs.ToldLaws.{told-refused, told-as}
-use Rattle.guide.specs.Texts.{ofText}
+use Rattle.telling.proofs.ToldLaws.{told-refused, told-as}
+use Rattle.telling.specs.Texts.{ofText}
 use borrow.Author.Needs.{needs}
 use Rattle.guide.proofs.texts.guide_heading.Statement.{statement}
 use Rattle.guide.proofs.texts.guide_heading.Tie as tie

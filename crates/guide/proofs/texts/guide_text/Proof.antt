@@ -1,7 +1,7 @@
 -- `guide_text` meets its contract.
 use mathlib.Core.Path.{refl}
-use Rattle.guide.proofs.ToldLaws.{told-refused, told-as}
-use Rattle.guide.specs.Texts.{ofText}
+use Rattle.telling.proofs.ToldLaws.{told-refused, told-as}
+use Rattle.telling.specs.Texts.{ofText}
 use Rattle.refusal.specs.Outputs.{outputAfter}
 use borrow.Author.Needs.{needs}
 use Rattle.guide.proofs.texts.guide_text.Statement.{statement}

@@ -1,5 +1,5 @@
 -- `guide_write_eit` meets its contract.
-use Rattle.guide.proofs.ToldLaws.{told-as}
+use Rattle.telling.proofs.ToldLaws.{told-as}
 use borrow.Author.Needs.{needs}
 use Rattle.guide.proofs.writers.guide_write_eit.Statement.{statement}
 use Rattle.guide.proofs.writers.guide_write_eit.Tie as tie

@@ -1,5 +1,5 @@
 -- `guide_write_ett` meets its contract.
-use Rattle.guide.proofs.ToldLaws.{told-as}
+use Rattle.telling.proofs.ToldLaws.{told-as}
 use borrow.Author.Needs.{needs}
 use Rattle.guide.proofs.writers.guide_write_ett.Statement.{statement}
 use Rattle.guide.proofs.writers.guide_write_ett.Tie as tie

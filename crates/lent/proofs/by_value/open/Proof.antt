@@ -6,8 +6,8 @@ use Rattle.lent.specs.Calls.{openingIn}
 use Rattle.lent.proofs.ByValue.{Cw, Le, meets}
 use Rattle.lent.proofs.calls.lent_open.Symbol as le
 use Rattle.lent.proofs.calls.lent_open.Met as le-thm
-use Rattle.lent.proofs.records.called_with.Symbol as cw
-use Rattle.lent.proofs.records.called_with.Met as cw-thm
+use Rattle.lent_memory.proofs.records.called_with.Symbol as cw
+use Rattle.lent_memory.proofs.records.called_with.Met as cw-thm
 use Rattle.lent.proofs.by_value.open.Key.{name as #f}
 use Rattle.lent.proofs.by_value.open as f
 use Rattle.lent.proofs.by_value.open.Statement as stated
@@ -20,4 +20,4 @@ open-spec 𝓤 H 𝓜 𝓖 𝓡 =
     (tables 𝓤 H 𝓜 𝓡 code.env .C) (tables 𝓤 H 𝓜 𝓡 code.env .Λ) #f code.function (code.unfolded 𝓤 H 𝓜 𝓡)
     (meets 𝓤 H (𝓖 .A) (givenOf 𝓤 H 𝓜 𝓖) (𝓜 .mem) (𝓡 .run) openingIn le.name (tablesOf 𝓤 H 𝓜 (tables 𝓤 H 𝓜 𝓡 code.env))
     (cited 𝓤 H (Le 𝓤 H (𝓖 .A) (𝓜 .mem) (𝓡 .run) openingIn) 𝓜 𝓡 code.env le.name le.routine code.calls-lent·calls·lent-open (le-thm.met 𝓤 H 𝓜 𝓖 𝓡))
-    (cited 𝓤 H (Cw 𝓤 H (𝓖 .A) (𝓜 .mem) (𝓡 .run)) 𝓜 𝓡 code.env cw.name cw.routine code.calls-lent·records·called-with (cw-thm.met 𝓤 H 𝓜 𝓖 𝓡)))
+    (cited 𝓤 H (Cw 𝓤 H (𝓖 .A) (𝓜 .mem) (𝓡 .run)) 𝓜 𝓡 code.env cw.name cw.routine code.calls-lent-memory·records·called-with (cw-thm.met 𝓤 H 𝓜 𝓖 𝓡)))

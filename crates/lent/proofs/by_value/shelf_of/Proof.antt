@@ -1,6 +1,6 @@
 -- `shelf_of` meets its contract.
 use borrow.Author.Needs.{needs}
-use Rattle.lent.proofs.GatherLaws.{shelf-taken}
+use Rattle.lent_memory.proofs.GatherLaws.{shelf-taken}
 use Rattle.lent.proofs.by_value.shelf_of.Statement.{statement}
 use Rattle.lent.proofs.by_value.shelf_of.Tie as tie
 

@@ -5,8 +5,8 @@ use Prim.Native.Nat.{_-_, _≤_}
 use mathlib.Core.Path.{_≡_, _∙_, ap}
 use lib.ListN.{replicate, take}
 use Rattle.shelf_state.specs.declared.records.Watch.{Watch}
-use Rattle.lent.specs.Meaning.{watchesMeant}
-use Rattle.lent.proofs.GatherLaws.{taken-end, taken-none, taken-step}
+use Rattle.lent_memory.specs.Meaning.{watchesMeant}
+use Rattle.lent_memory.proofs.GatherLaws.{taken-end, taken-none, taken-step}
 use Rattle.lent.proofs.by_value.watches_meant.Statement.{statement}
 use Rattle.lent.proofs.by_value.watches_meant.Tie as tie
 

@@ -3,9 +3,9 @@ use borrow.Author.Needs.{needs}
 use mathlib.Core.Path.{sym, _∙_}
 use borrow.Author.Tests.{not-false, not-true}
 use native.Mathlib.Omega.{arith}
-use Rattle.lent.specs.Meaning.{shelfIn}
+use Rattle.lent_memory.specs.Meaning.{shelfIn}
 use Rattle.lent.proofs.EndLaws.{broken-said, delivery-said, question-is}
-use Rattle.lent.proofs.RowLaws.{rows-fit}
+use Rattle.lent_memory.proofs.RowLaws.{rows-fit}
 use Rattle.lent.proofs.on_book.deliver.Statement.{statement}
 use Rattle.lent.proofs.on_book.deliver.Tie as tie
 

@@ -5,11 +5,11 @@ use borrow.Author.Tests.{not-false, not-true}
 use mathlib.Core.Path.{ap, subst}
 use Rattle.part.specs.declared.Part.{Part}
 use Rattle.shelf.specs.Answers.{After}
-use Rattle.lent.specs.Inner.{SmallPart}
-use Rattle.lent.proofs.ReplyLaws.{part-small}
-use Rattle.lent.specs.Meaning.{shelfIn}
+use Rattle.lent_memory.specs.Inner.{SmallPart}
+use Rattle.lent_memory.proofs.ReplyLaws.{part-small}
+use Rattle.lent_memory.specs.Meaning.{shelfIn}
 use Rattle.lent.proofs.EndLaws.{broken-said, fetching-said, question-is, reply-is}
-use Rattle.lent.proofs.RowLaws.{rows-fit}
+use Rattle.lent_memory.proofs.RowLaws.{rows-fit}
 use Rattle.lent.proofs.on_book.fetch.Statement.{statement}
 use Rattle.lent.proofs.on_book.fetch.Tie as tie
 

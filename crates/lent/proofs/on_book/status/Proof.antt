@@ -4,11 +4,11 @@ use mathlib.Core.Path.{sym, _∙_}
 use borrow.Author.Tests.{not-false, not-true}
 use mathlib.Core.Path.{ap, subst}
 use Rattle.shelf.specs.Answers.{After, Status}
-use Rattle.lent.specs.Inner.{SmallStatus}
-use Rattle.lent.proofs.ReplyLaws.{status-small}
-use Rattle.lent.specs.Meaning.{shelfIn}
+use Rattle.lent_memory.specs.Inner.{SmallStatus}
+use Rattle.lent_memory.proofs.ReplyLaws.{status-small}
+use Rattle.lent_memory.specs.Meaning.{shelfIn}
 use Rattle.lent.proofs.EndLaws.{broken-said, asking-said, question-is, reply-is}
-use Rattle.lent.proofs.RowLaws.{rows-fit}
+use Rattle.lent_memory.proofs.RowLaws.{rows-fit}
 use Rattle.lent.proofs.on_book.status.Statement.{statement}
 use Rattle.lent.proofs.on_book.status.Tie as tie
 

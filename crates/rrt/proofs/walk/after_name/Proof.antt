@@ -1,6 +1,6 @@
 -- `after_name` meets its contract.
 use Rattle.bytes_at.proofs.WalkLaws.{seq-bad, seq-to}
-use Rattle.rrt.specs.Format.{rest}
+use Rattle.rrt.specs.Format.{dimensionsAndList}
 use borrow.Author.Needs.{needs}
 use Rattle.rrt.proofs.walk.after_name.Statement.{statement}
 use Rattle.rrt.proofs.walk.after_name.Tie as tie
@@ -15,14 +15,14 @@ enum-told : tie.Need-enum-told
 enum-told c = search needs
 
 returns : tie.Need-returns
-unfolding rest
+unfolding dimensionsAndList
 returns c = seq-bad _ (c .before .before .all-dimensions .ensures) (c .enum-told .given .1)
 
 whole-list10-requires : tie.Need-whole-list10-requires
 whole-list10-requires c κs = search needs
 
 returns-2 : tie.Need-returns-2
-unfolding rest
+unfolding dimensionsAndList
 returns-2 c = let w = c .before .before in
     seq-to _ (w .before .before .all-dimensions .ensures) (w .w .given .1) (c .whole-list10 .ensures)
 

@@ -1,7 +1,7 @@
 -- `advisory_in` meets its contract.
 use Rattle.refusal.specs.Outcomes.{after}
 use Rattle.entry.proofs.EntryLaws.{spot-inside}
-use Rattle.section_text.specs.Fields.{advisoryIn}
+use Rattle.section_text.specs.Fields.{advisoryTextIn}
 use borrow.Author.Needs.{needs}
 use Rattle.section_text.proofs.field.advisory_in.Statement.{statement}
 use Rattle.section_text.proofs.field.advisory_in.Tie as tie
@@ -24,11 +24,11 @@ place-field-requires : tie.Need-place-field-requires
 place-field-requires c κs = search needs
 
 returns : tie.Need-returns
-unfolding advisoryIn after
+unfolding advisoryTextIn after
 returns c = rw (← c .before .before .before .spot-in .ensures .0, c .before .k .given .1)
 
 returns-2 : tie.Need-returns-2
-unfolding advisoryIn after
+unfolding advisoryTextIn after
 returns-2 c =
     let j = c .before .before .before .before .before in
     rw (← j .spot-in .ensures .0, c .before .before .before .a .given .1) (rw (c .before .advisory-text-at .ensures) at (c .place-field .ensures))

@@ -1,7 +1,7 @@
 -- `dimension_in` meets its contract.
 use Rattle.refusal.specs.Outcomes.{after}
 use Rattle.entry.proofs.EntryLaws.{spot-inside}
-use Rattle.section_text.specs.Fields.{dimensionIn}
+use Rattle.section_text.specs.Fields.{dimensionNameIn}
 use borrow.Author.Needs.{needs}
 use Rattle.section_text.proofs.field.dimension_in.Statement.{statement}
 use Rattle.section_text.proofs.field.dimension_in.Tie as tie
@@ -21,11 +21,11 @@ dimension-at-requires c κs =
     spot-inside (j .before .before .args .s .now) (j .spot-in .ensures .1) (c .before .d .given .1)
 
 returns : tie.Need-returns
-unfolding dimensionIn after
+unfolding dimensionNameIn after
 returns c = rw (← c .before .before .before .spot-in .ensures .0, c .before .k .given .1)
 
 returns-2 : tie.Need-returns-2
-unfolding dimensionIn after
+unfolding dimensionNameIn after
 returns-2 c =
     let j = c .before .before .before .before .before in
     rw (← j .spot-in .ensures .0, c .before .before .before .d .given .1, c .before .dimension-at .ensures)

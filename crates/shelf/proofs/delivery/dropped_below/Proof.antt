@@ -1,7 +1,7 @@
 -- `dropped_below` meets its contract.
 use mathlib.Core.Path.{_∙_, sym}
 use borrow.Author.Needs.{needs}
-use Rattle.shelf.specs.Delivery.{droppedBelow}
+use Rattle.shelf.specs.Inner.{droppedBelow}
 use Rattle.shelf.proofs.delivery.dropped_below.Statement.{statement}
 use Rattle.shelf.proofs.delivery.dropped_below.Tie as tie
 

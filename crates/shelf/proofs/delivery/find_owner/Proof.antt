@@ -4,6 +4,7 @@ use native.Mathlib.Omega.{arith}
 use mathlib.Core.Bool.{false, true}
 use borrow.Author.Tests.{eq-eqb, le-leb, lt-leb, ne-eqb}
 use borrow.Author.Needs.{needs}
+use Rattle.refusal.specs.Outcomes.{orRefuse}
 use Rattle.logic.proofs.LoopLaws.{any-no}
 use Rattle.shelf_state.specs.Records.{watchIn}
 use Rattle.shelf.proofs.OwnerLaws.{owner-late}
@@ -12,14 +13,14 @@ use Rattle.shelf.proofs.delivery.find_owner.Statement.{statement}
 use Rattle.shelf.proofs.delivery.find_owner.Tie as tie
 
 returns : tie.Need-returns
-unfolding ownerIn
+unfolding ownerIn orRefuse
 returns c = rw (eq-eqb _ _ (c .if1 .taken))
 
 find-watch-requires : tie.Need-find-watch-requires
 find-watch-requires c κs = search needs
 
 returns-2 : tie.Need-returns-2
-unfolding ownerIn
+unfolding ownerIn orRefuse
 returns-2 c = rw (ne-eqb _ _ (c .before .before .if1 .left), any-no _ _ (c .before .find-watch .ensures) (c .if2 .taken))
 
 mul-x : tie.Need-mul-x
@@ -32,11 +33,13 @@ wide-requires : tie.Need-wide-requires
 wide-requires c κs = search needs
 
 returns-3 : tie.Need-returns-3
+unfolding orRefuse
 returns-3 c = let g = c .before .before .before .before .before .before .before .before .args in
     owner-late (g .t1) (g .n) (g .a) (g .h) _ false (c .before .before .before .before .before .before .if1 .left) (c .before .before .before .before .before .find-watch .ensures) (c .before .before .before .before .if2 .left)
     (lt-leb (g .h .last + 1) (watchIn (g .t1) (c .before .before .before .before .before .find-watch .result) .quota) (omega (arith, c .if3 .taken, c .before .before .wide .ensures .0)))
 
 returns-4 : tie.Need-returns-4
+unfolding orRefuse
 returns-4 c = let g = c .before .before .before .before .before .before .before .before .args in
     owner-late (g .t1) (g .n) (g .a) (g .h) _ true (c .before .before .before .before .before .before .if1 .left) (c .before .before .before .before .before .find-watch .ensures) (c .before .before .before .before .if2 .left)
     (le-leb (g .h .last + 1) (watchIn (g .t1) (c .before .before .before .before .before .find-watch .result) .quota) (omega (arith, c .if3 .left, c .before .before .wide .ensures .0)))

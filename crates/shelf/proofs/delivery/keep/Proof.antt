@@ -4,7 +4,8 @@ use borrow.Author.Needs.{needs}
 use Rattle.shelf_state.proofs.RuleLaws.{rules}
 use Rattle.shelf.proofs.OwnerLaws.{area-refused, by-after, for-owner, for-refused, ready-of}
 use Rattle.shelf.specs.Answers.{After}
-use Rattle.shelf.specs.Delivery.{ownerOutcome, quiet}
+use Rattle.shelf.specs.Inner.{ownerOutcome}
+use Rattle.shelf.specs.Delivery.{quiet}
 use Rattle.shelf.proofs.delivery.keep.Statement.{statement}
 use Rattle.shelf.proofs.delivery.keep.Tie as tie
 

@@ -3,7 +3,7 @@ use denote.Ref.{now}
 use native.Mathlib.Omega.{arith}
 use borrow.Author.Needs.{needs}
 use Rattle.kind.specs.declared.Kind.the-variants.{Eit}
-use Rattle.format.specs.Formats.{any}
+use Rattle.format.specs.Formats.{anyBytes}
 use Rattle.eit.specs.Format.{eitOf}
 use Rattle.eit.specs.Given.{eventsGiven}
 use Rattle.section.proofs.WritingLaws.{assembled}
@@ -39,7 +39,7 @@ returns c =
     let g = s .args in
     let f = s .pre in
     let l = body-length (g .g) (g .count) (now (g .rows)) (now (g .bytes)) (f .given .sound) in
-    assembled (now (g .out)) Eit (g .g) (eitOf any any .enc (record { events = eventsGiven (now (g .rows)) (now (g .bytes)) (g .count) 0 })) _
+    assembled (now (g .out)) Eit (g .g) (eitOf anyBytes anyBytes .enc (record { events = eventsGiven (now (g .rows)) (now (g .bytes)) (g .count) 0 })) _
     (omega (arith, l, f .whole)) (omega (arith, f .fits .room, f .whole))
     (h .put-header .ensures) (b .put-body .ensures) (c .before .before .seal .ensures)
 

@@ -2,7 +2,7 @@
 use denote.Ref.{now}
 use borrow.Author.Needs.{needs}
 use Rattle.kind.specs.declared.Kind.the-variants.{Ett}
-use Rattle.format.specs.Formats.{any}
+use Rattle.format.specs.Formats.{anyBytes}
 use Rattle.ett.specs.Format.{ettOf}
 use Rattle.section.proofs.WritingLaws.{assembled}
 use Rattle.writing.specs.Written.{ettBytes}
@@ -35,7 +35,7 @@ returns c =
     let h = b .before .before .before .before in
     let s = h .before .before .before .before in
     let g = s .args in
-    assembled (now (g .out)) Ett (g .g) (ettOf any .enc (record { etm = g .etm; text = now (g .t) })) _
+    assembled (now (g .out)) Ett (g .g) (ettOf anyBytes .enc (record { etm = g .etm; text = now (g .t) })) _
     (body-length (g .g) (g .etm) (now (g .t))) (s .pre .0 .room)
     (h .put-header .ensures) (b .put-body .ensures) (c .before .before .seal .ensures)
 

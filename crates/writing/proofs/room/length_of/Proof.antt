@@ -1,7 +1,7 @@
 -- `length_of` meets its contract.
 use mathlib.Core.Path.{sym, _∙_}
 use borrow.Author.Needs.{needs}
-use Rattle.writing.specs.Written.{orRefuse}
+use Rattle.refusal.specs.Outcomes.{orRefuse}
 use Rattle.writing.proofs.room.length_of.Statement.{statement}
 use Rattle.writing.proofs.room.length_of.Tie as tie
 

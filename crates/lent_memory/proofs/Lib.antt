@@ -1,0 +1,4 @@
+pub mod Element
+pub mod GatherLaws
+pub mod RowLaws
+pub mod ReplyLaws

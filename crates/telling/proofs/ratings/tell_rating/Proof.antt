@@ -1,0 +1,37 @@
+-- `tell_rating` meets its contract.
+use borrow.Author.Needs.{needs}
+use mathlib.Core.Path.{refl}
+use Rattle.rating.specs.Ratings.{ratedOf}
+use Rattle.telling.proofs.ToldLaws.{told-refused, told-result}
+use Rattle.telling.proofs.ratings.tell_rating.Statement.{statement}
+use Rattle.telling.proofs.ratings.tell_rating.Tie as tie
+
+enum-known-answer : tie.Need-enum-known-answer
+enum-known-answer c = search needs
+
+number-of-requires : tie.Need-number-of-requires
+number-of-requires c κs = search needs
+
+enum-known-answer-2 : tie.Need-enum-known-answer-2
+enum-known-answer-2 c = search needs
+
+rating-numbers-requires : tie.Need-rating-numbers-requires
+rating-numbers-requires c κs = search needs
+
+returns : tie.Need-returns
+returns c = told-refused _ _ _ _ _ (rw (c .before .before .answer .given .1)) (c .number-of .ensures)
+
+returns-2 : tie.Need-returns-2
+returns-2 c = let k = c .before .before in
+    told-result _ _ _ _ (ratedOf (k .answer2 .given .0 .0)) _ (rw (k .answer2 .given .1)) refl (c .rating-numbers .ensures)
+
+pub tell-rating-spec : {M : Type 1} → statement M
+tell-rating-spec =
+    tie.close
+    (tie.spec
+    enum-known-answer
+    number-of-requires
+    enum-known-answer-2
+    rating-numbers-requires
+    returns
+    returns-2)

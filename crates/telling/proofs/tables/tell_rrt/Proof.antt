@@ -1,0 +1,37 @@
+-- `tell_rrt` meets its contract.
+use borrow.Author.Needs.{needs}
+use mathlib.Core.Path.{refl, ap}
+use Rattle.reading.specs.Rrts.{fieldsOutcome}
+use Rattle.telling.proofs.ToldLaws.{told-refused, told-result}
+use Rattle.telling.proofs.tables.tell_rrt.Statement.{statement}
+use Rattle.telling.proofs.tables.tell_rrt.Tie as tie
+
+enum-known-answer : tie.Need-enum-known-answer
+enum-known-answer c = search needs
+
+number-of-requires : tie.Need-number-of-requires
+number-of-requires c κs = search needs
+
+enum-known-answer-2 : tie.Need-enum-known-answer-2
+enum-known-answer-2 c = search needs
+
+rrt-numbers-requires : tie.Need-rrt-numbers-requires
+rrt-numbers-requires c κs = search needs
+
+returns : tie.Need-returns
+returns c = told-refused _ _ _ _ _ (ap fieldsOutcome (c .before .before .answer .given .1)) (c .number-of .ensures)
+
+returns-2 : tie.Need-returns-2
+returns-2 c = let k = c .before .before in
+    told-result _ _ _ _ (k .answer2 .given .0 .0) _ (ap fieldsOutcome (k .answer2 .given .1)) refl (c .rrt-numbers .ensures)
+
+pub tell-rrt-spec : {M : Type 1} → statement M
+tell-rrt-spec =
+    tie.close
+    (tie.spec
+    enum-known-answer
+    number-of-requires
+    enum-known-answer-2
+    rrt-numbers-requires
+    returns
+    returns-2)
