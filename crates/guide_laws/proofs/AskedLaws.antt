@@ -17,7 +17,7 @@ use Rattle.rating.specs.Ratings.{Rated, noAdvisory, regionAbsent, dimensionAbse
 use Rattle.reading.specs.Eits.{orNone}
 use Rattle.telling.specs.Told.{noted}
 use Rattle.telling.specs.Ratings.{ratingNumbers, descriptorNumbers, textNumbers}
-use Rattle.guide_laws.proofs.SmallLaws.{Small, whole}
+use Rattle.guide_laws.proofs.SmallLaws.{Small, told-whole}
 
 picked-by : {A : Type 0} (P : A → Type 0) (t : Bool) (a b : A) → P a → ((t ≡ false) → P b) → P (pick t a b)
 picked-by P true a b h g = h
@@ -41,7 +41,7 @@ OptionSmall f (some a) = Small (f a)
 
 pub or-none-whole : {A : Type 0} (f : A → List ℕ) (o : Option A) (a : A) → OptionSmall f o → orNone o ≡ result a → map noted (f a) ≡ f a
 or-none-whole f none a h e = not-both 13 a e
-or-none-whole f (some b) a h e = whole f b a e h
+or-none-whole f (some b) a h e = told-whole f b a e h
 
 module _ (s : List ℕ) (bytes : Bytes s) (end : ℕ) (low : end ≤ 4294960000) where
   pub rating-small : (region dimension from : ℕ) → Small (ratingNumbers (ratingIn s region dimension end from))

@@ -30,7 +30,7 @@ use Rattle.titles.proofs.TitlesLaws.{units-few, judged-events}
 use Rattle.telling.specs.Told.{oneNumber}
 use Rattle.telling.specs.Titled.{countsNumbers}
 use Rattle.guide_laws.specs.Whole.{Whole, CountsWhole, WrittenWhole}
-use Rattle.guide_laws.proofs.SmallLaws.{whole, word-small, largest-small, judged-size}
+use Rattle.guide_laws.proofs.SmallLaws.{told-whole, word-small, largest-small, judged-size}
 
 module _ (s : List ℕ) (bytes : Bytes s) where
   count-small : (e : Entry) → entryCount e s < 65536
@@ -43,7 +43,7 @@ module _ (s : List ℕ) (bytes : Bytes s) where
   -- a count for which there is room
   room-whole : (w n room : ℕ) → n < 4294967296 → Whole oneNumber (roomForRows w n room)
   unfolding roomForRows
-  room-whole w n room h a e = whole oneNumber n a (not-less room (w * n) 12 _ a e .1) (h, record {})
+  room-whole w n room h a e = told-whole oneNumber n a (not-less room (w * n) 12 _ a e .1) (h, record {})
 
   rows-whole : (r : Row) (room : ℕ) → Whole oneNumber (rowsOf r s room)
   unfolding rowsOf rowsIn
@@ -71,7 +71,7 @@ module _ (s : List ℕ) (bytes : Bytes s) where
       let t = not-less units _ 12 _ a (q .1) in
       let n = judged-size Eit s (p .0) (p .1 .0) in
       let few = units-few s (titles.eventCount s) titles.firstEvent (judged-events s (p .0) (p .1 .0)) in
-      whole countsNumbers _ a (t .1) (omega (arith, bytes 9), (omega (arith, n, few), record {}))
+      told-whole countsNumbers _ a (t .1) (omega (arith, bytes 9), (omega (arith, n, few), record {}))
 
   pub counts-whole : CountsWhole s
   counts-whole = record { rows = rows-whole; values = values-whole; titles = titles-whole }
@@ -89,7 +89,7 @@ counted-whole : (x : Outcome (List ℕ)) → ((s : List ℕ) → x ≡ result s 
 unfolding counted
 counted-whole x h n e =
     let p = after-is x _ n e in
-    whole oneNumber _ n (p .1 .1) (omega (arith, h (p .0) (p .1 .0)), record {})
+    told-whole oneNumber _ n (p .1 .1) (omega (arith, h (p .0) (p .1 .0)), record {})
 
 pub written-whole : (q : List ℕ) → WrittenWhole q
 unfolding eitWritten ettWritten

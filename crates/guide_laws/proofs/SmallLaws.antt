@@ -47,8 +47,8 @@ small-whole [] h = refl
 small-whole (n ∷ l) h = sym (as-told (h .0) (sym (small-whole l (h .1))))
 
 -- so is a result of such numbers
-pub whole : {A : Type 0} (f : A → List ℕ) (a b : A) → _≡_ {A = Outcome A} (result a) (result b) → Small (f a) → map noted (f b) ≡ f b
-whole f a b e h = subst (λ x. map noted (f x) ≡ f x) (same-result a b e) (small-whole (f a) h)
+pub told-whole : {A : Type 0} (f : A → List ℕ) (a b : A) → _≡_ {A = Outcome A} (result a) (result b) → Small (f a) → map noted (f b) ≡ f b
+told-whole f a b e h = subst (λ x. map noted (f x) ≡ f x) (same-result a b e) (small-whole (f a) h)
 
 pub small-join : (k l : List ℕ) → Small k → Small l → Small (k ++ l)
 small-join [] l h g = g

@@ -31,7 +31,7 @@ use Rattle.telling.specs.Told.{oneNumber}
 use Rattle.telling.specs.Fields.{headingNumbers, amountNumbers}
 use Rattle.telling.specs.Texts.{whichOf, stringOf, ofText}
 use Rattle.guide_laws.specs.Whole.{Whole, FieldWhole, TextWhole, Short}
-use Rattle.guide_laws.proofs.SmallLaws.{whole, picked, judged-size}
+use Rattle.guide_laws.proofs.SmallLaws.{told-whole, picked, judged-size}
 
 -- a part of bytes has bytes
 take-bytes : (n : ℕ) (l : List ℕ) → Bytes l → Bytes (take n l)
@@ -69,7 +69,7 @@ unfolding amountOf
 amount-whole n most x z h few a e =
     let p = after-is x _ a e in
     let l = few (p .0) (p .1 .0) in
-    whole amountNumbers _ a (p .1 .1) (omega arith, (omega arith, record {}))
+    told-whole amountNumbers _ a (p .1 .1) (omega arith, (omega arith, record {}))
 
 -- ---- the strings of bytes that a text stands in
 module _ (f : List ℕ) (bytes : Bytes f) where
@@ -77,14 +77,14 @@ module _ (f : List ℕ) (bytes : Bytes f) where
   unfolding stringCount ifEq
   count-whole n e =
       let c = picked (λ (m : ℕ). m < 256) (eqb 0 (length f)) 0 (byteAt f 0) (omega arith) (bytes 0) in
-      whole oneNumber _ n e (omega (arith, c), record {})
+      told-whole oneNumber _ n e (omega (arith, c), record {})
 
   heading-whole : (k : ℕ) → Whole headingNumbers (stringHeading f (length f) 0 k)
   unfolding stringHeading
   heading-whole k h e =
       let p = after-is (stringAt f (length f) 0 k) _ h e in
       let b = p .0 in
-      whole headingNumbers (headingBefore f b) h (p .1 .1)
+      told-whole headingNumbers (headingBefore f b) h (p .1 .1)
       (omega (arith, bytes (b - 4), bytes (b - 3), bytes (b - 2)), (omega (arith, bytes (b - 1)), record {}))
 
 -- ---- of a field by itself

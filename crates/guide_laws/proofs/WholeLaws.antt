@@ -48,7 +48,7 @@ use Rattle.guide_laws.specs.Whole.{Whole, TablesWhole, EventWhole, ListW
 use Rattle.guide_laws.proofs.AskedLaws.{rating-small, descriptor-small, text-small-in, or-none-whole}
 use Rattle.guide_laws.proofs.TextLaws.{fields-whole, texts-whole}
 use Rattle.guide_laws.proofs.CountLaws.{counts-whole, written-whole}
-use Rattle.guide_laws.proofs.SmallLaws.{Small, small-whole, whole, picked, small-join, bits-small, word-small, judged-size, spot-small, rest-small, value-small, part-small, list12-small, list10-small, text-small, text-end}
+use Rattle.guide_laws.proofs.SmallLaws.{Small, small-whole, told-whole, picked, small-join, bits-small, word-small, judged-size, spot-small, rest-small, value-small, part-small, list12-small, list10-small, text-small, text-end}
 
 table-id-small : (k : Kind) → tableIdOf k < 256
 table-id-small Mgt = omega arith
@@ -77,7 +77,7 @@ module _ (s : List ℕ) (bytes : Bytes s) where
   mgt-whole t e =
       let p = after-is (sectionBy (onlyOf Mgt) s) _ t e in
       let q = after-is (restIn Table s) _ t (p .1 .1) in
-      whole mgtNumbers _ t (q .1 .1) (omega (arith, word-small s bytes 9), list12-small s (q .0) (omega (arith, rest-small Table s (p .0) (q .0) (p .1 .0) (q .1 .0))))
+      told-whole mgtNumbers _ t (q .1 .1) (omega (arith, word-small s bytes 9), list12-small s (q .0) (omega (arith, rest-small Table s (p .0) (q .0) (p .1 .0) (q .1 .0))))
 
   defined-small : (a : ℕ) → a ≤ 4096 → Small (definedNumbers (mgt.definedAt s a))
   unfolding definedNumbers mgt.definedAt mgt.descriptorsAt
@@ -96,14 +96,14 @@ module _ (s : List ℕ) (bytes : Bytes s) where
   unfolding mgts.entryOf
   defined-whole i d e =
       let p = after-is (spotOf Table s i) _ d e in
-      whole definedNumbers (mgt.definedAt s (p .0)) d (p .1 .1) (defined-small (p .0) (spot-small Table s i (p .0) (p .1 .0)))
+      told-whole definedNumbers (mgt.definedAt s (p .0)) d (p .1 .1) (defined-small (p .0) (spot-small Table s i (p .0) (p .1 .0)))
 
   tvct-whole : Whole tvctNumbers (tvcts.fieldsOf s)
   unfolding tvcts.fieldsOf tvcts.fieldsIn tvctNumbers
   tvct-whole t e =
       let p = after-is (sectionBy (onlyOf Tvct) s) _ t e in
       let q = after-is (restIn Channel s) _ t (p .1 .1) in
-      whole tvctNumbers _ t (q .1 .1)
+      told-whole tvctNumbers _ t (q .1 .1)
       (omega (arith, extension-small Tvct (p .0) (p .1 .0)), (omega (arith, bytes 9), list10-small s (q .0) (omega (arith, rest-small Channel s (p .0) (q .0) (p .1 .0) (q .1 .0)))))
 
   channel-small : (a : ℕ) → a ≤ 4096 → Small (channelNumbers (channel.channelAt s a))
@@ -169,7 +169,7 @@ module _ (s : List ℕ) (bytes : Bytes s) where
   unfolding tvcts.entryOf
   channel-whole i c e =
       let p = after-is (spotOf Channel s i) _ c e in
-      whole channelNumbers (channel.channelAt s (p .0)) c (p .1 .1) (channel-small (p .0) (spot-small Channel s i (p .0) (p .1 .0)))
+      told-whole channelNumbers (channel.channelAt s (p .0)) c (p .1 .1) (channel-small (p .0) (spot-small Channel s i (p .0) (p .1 .0)))
 
   rrt-small : (x b : ℕ) → x < 65536 → b ≤ 4096 → Small (rrtNumbers (rrt.fieldsAt s x 9 b))
   unfolding rrtNumbers
@@ -187,7 +187,7 @@ module _ (s : List ℕ) (bytes : Bytes s) where
   rrt-whole t e =
       let p = after-is (sectionBy (onlyOf Rrt) s) _ t e in
       let q = after-is (restIn Dimension s) _ t (p .1 .1) in
-      whole rrtNumbers (rrt.fieldsAt s (p .0 .extension) 9 (q .0)) t (q .1 .1)
+      told-whole rrtNumbers (rrt.fieldsAt s (p .0 .extension) 9 (q .0)) t (q .1 .1)
       (rrt-small (p .0 .extension) (q .0) (extension-small Rrt (p .0) (p .1 .0)) (rest-small Dimension s (p .0) (q .0) (p .1 .0) (q .1 .0)))
 
   dimension-small : (d : ℕ) → d ≤ 4096 → Small (dimensionNumbers (rrt.dimensionAt s d))
@@ -200,7 +200,7 @@ module _ (s : List ℕ) (bytes : Bytes s) where
   unfolding rrts.entryOf
   dimension-whole i d e =
       let p = after-is (spotOf Dimension s i) _ d e in
-      whole dimensionNumbers (rrt.dimensionAt s (p .0)) d (p .1 .1) (dimension-small (p .0) (spot-small Dimension s i (p .0) (p .1 .0)))
+      told-whole dimensionNumbers (rrt.dimensionAt s (p .0)) d (p .1 .1) (dimension-small (p .0) (spot-small Dimension s i (p .0) (p .1 .0)))
 
   texts-small : (a : ℕ) → a ≤ 4096 → Small (valueNumbers (rrt.textsAt s a))
   unfolding valueNumbers rrt.textsAt
@@ -213,13 +213,13 @@ module _ (s : List ℕ) (bytes : Bytes s) where
   value-whole i j t e =
       let p = after-is (spotOf Dimension s i) _ t e in
       let q = after-is (valueSpot s (p .0) j) _ t (p .1 .1) in
-      whole valueNumbers (rrt.textsAt s (q .0)) t (q .1 .1) (texts-small (q .0) (value-small s i (p .0) j (q .0) (p .1 .0) (q .1 .0)))
+      told-whole valueNumbers (rrt.textsAt s (q .0)) t (q .1 .1) (texts-small (q .0) (value-small s i (p .0) j (q .0) (p .1 .0) (q .1 .0)))
 
   eit-whole : Whole eitNumbers (eits.fieldsOf s)
   unfolding eits.fieldsOf eitNumbers
   eit-whole t e =
       let p = after-is (sectionBy (onlyOf Eit) s) _ t e in
-      whole eitNumbers _ t (p .1 .1) (omega (arith, extension-small Eit (p .0) (p .1 .0)), (omega (arith, bytes 9), record {}))
+      told-whole eitNumbers _ t (p .1 .1) (omega (arith, extension-small Eit (p .0) (p .1 .0)), (omega (arith, bytes 9), record {}))
 
   ett-small : (x n : ℕ) → x < 65536 → n ≤ 4096 → Small (ettNumbers (ett.fieldsAt s x 9 n))
   unfolding ettNumbers ett.fieldsAt
@@ -230,7 +230,7 @@ module _ (s : List ℕ) (bytes : Bytes s) where
   ett-whole t e =
       let p = after-is (sectionBy (onlyOf Ett) s) _ t e in
       let n = judged-size Ett s (p .0) (p .1 .0) in
-      whole ettNumbers (ett.fieldsAt s (p .0 .extension) 9 (length s - 4)) t (p .1 .1)
+      told-whole ettNumbers (ett.fieldsAt s (p .0 .extension) 9 (length s - 4)) t (p .1 .1)
       (ett-small (p .0 .extension) (length s - 4) (extension-small Ett (p .0) (p .1 .0)) (omega arith))
 
   -- a title has a sort, and stands where its part does or nowhere
@@ -275,7 +275,7 @@ module _ (s : List ℕ) (bytes : Bytes s) where
   unfolding eits.entryOf
   event-whole i d e =
       let p = after-is (spotOf Event s i) _ d e in
-      whole eventNumbers (eit.eventAt s (p .0)) d (p .1 .1) (event-small (p .0) (spot-small Event s i (p .0) (p .1 .0)))
+      told-whole eventNumbers (eit.eventAt s (p .0)) d (p .1 .1) (event-small (p .0) (spot-small Event s i (p .0) (p .1 .0)))
 
   tables-whole : TablesWhole s
   tables-whole = record {
@@ -302,7 +302,7 @@ module _ (s : List ℕ) (bytes : Bytes s) where
   event-asked i = record {
     rating = λ region dimension r e.
         let p = after-is (spotOf Event s i) _ r e in
-        whole ratingNumbers _ r (p .1 .1) (rating-small s bytes _ (list-end (p .0) (spot-small Event s i (p .0) (p .1 .0))) region dimension (eit.descriptorsAt s (p .0) .start));
+        told-whole ratingNumbers _ r (p .1 .1) (rating-small s bytes _ (list-end (p .0) (spot-small Event s i (p .0) (p .1 .0))) region dimension (eit.descriptorsAt s (p .0) .start));
     descriptor = λ k d e.
         let p = after-is (spotOf Event s i) _ d e in
         or-none-whole descriptorNumbers (event.eventDescriptor s (p .0) k) d
@@ -320,7 +320,7 @@ if-filled l o a e = went-on 9 (eits.isFilled l) o a e .1
 
 list-whole : (l : List ℕ) → Bytes l → Short l → ListWhole l
 list-whole l bytes low = record {
-  rating = λ region dimension r e. whole ratingNumbers _ r (if-filled l _ r e) (rating-small l bytes (length l) (omega arith) region dimension 0);
+  rating = λ region dimension r e. told-whole ratingNumbers _ r (if-filled l _ r e) (rating-small l bytes (length l) (omega arith) region dimension 0);
   descriptor = λ k d e. or-none-whole descriptorNumbers (descriptorIn l (length l) k 0) d (descriptor-small l bytes (length l) (omega arith) k 0) (if-filled l _ d e);
   advisory = λ region t e. or-none-whole textNumbers (textIn l region (length l) 0) t (text-small-in l bytes (length l) (omega arith) region 0) (if-filled l _ t e);
 }

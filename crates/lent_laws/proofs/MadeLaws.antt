@@ -32,16 +32,16 @@ use Rattle.shelf_laws.proofs.ViewLaws.{found}
 use Rattle.lent_memory.proofs.RowLaws.{clamp-le}
 use Rattle.lent_memory.specs.Meaning.{LentState, meaning, numberAt, placeMeant, rowCount}
 use Rattle.lent_laws.proofs.MeaningLaws.{lent-count, lent-places, lent-records, lent-watches, past-lent, place-lent, rowsRead}
-use Rattle.lent_laws.proofs.TripLaws.{Made, Narrow}
+use Rattle.lent_laws.proofs.TripLaws.{Made, NarrowPlace}
 
-row-narrow : (l : List ℕ) (i : ℕ) → Narrow (placeMeant l i)
+row-narrow : (l : List ℕ) (i : ℕ) → NarrowPlace (placeMeant l i)
 row-narrow l i = record { watch-8 = clamp-le 255 (numberAt l (i * 5 + 1)) .0; number-8 = clamp-le 255 (numberAt l (i * 5 + 2)) .0; length-16 = clamp-le 65535 (numberAt l (i * 5 + 3)) .0 }
 
-pick-narrow : (b : Bool) (p : Place) → Narrow p → Narrow (pick b blankPlace p)
+pick-narrow : (b : Bool) (p : Place) → NarrowPlace p → NarrowPlace (pick b blankPlace p)
 pick-narrow true p n = record { watch-8 = omega arith; number-8 = omega arith; length-16 = omega arith }
 pick-narrow false p n = n
 
-released-narrow : (w : ℕ) (p : Place) → Narrow p → Narrow (release w p)
+released-narrow : (w : ℕ) (p : Place) → NarrowPlace p → NarrowPlace (release w p)
 unfolding release
 released-narrow w p n = pick-narrow (holdsFor p w) p n
 
@@ -65,7 +65,7 @@ module _ (x : LentState) where
         few = omega (arith, z .records-16, e);
         below = omega (arith, h, e);
         only = λ i n. refl;
-        narrow = λ i g. subst Narrow (sym (place-lent x i g)) (row-narrow l i);
+        narrow = λ i g. subst NarrowPlace (sym (place-lent x i g)) (row-narrow l i);
         rest = past-lent x;
       }
 
@@ -86,7 +86,7 @@ module _ (x : LentState) where
     read-count : t .count ≤ 64 → rowsRead l ≡ t .count
     read-count h = let e = st .count in rw (le-ltb 64 (rowCount (length l)) (omega (arith, h, e))) (sym e)
 
-    made-place : (j : ℕ) (p : Place) → t .count ≤ 64 → j < t .count → Narrow p → Made x (setPlace t j p) k
+    made-place : (j : ℕ) (p : Place) → t .count ≤ 64 → j < t .count → NarrowPlace p → Made x (setPlace t j p) k
     made-place j p c h n = record {
       records = st .records;
       count = st .count;
@@ -97,8 +97,8 @@ module _ (x : LentState) where
       only = st .only;
       narrow = λ i g. ⊎-elim
           (λ e. let q : j ≡ i = sym (eqb-true i j e) in
-          subst (λ (x : ℕ). Narrow (getD (set (t .places) j p) x blankPlace)) q (subst Narrow (sym (getD-set-same (t .places) j p blankPlace (omega (arith, h, c, st .places-64)))) n))
-          (λ e. subst Narrow (sym (getD-set-other (t .places) j i p blankPlace (eqb-false i j e))) (st .narrow i g))
+          subst (λ (x : ℕ). NarrowPlace (getD (set (t .places) j p) x blankPlace)) q (subst NarrowPlace (sym (getD-set-same (t .places) j p blankPlace (omega (arith, h, c, st .places-64)))) n))
+          (λ e. subst NarrowPlace (sym (getD-set-other (t .places) j i p blankPlace (eqb-false i j e))) (st .narrow i g))
           (both (eqb i j));
       rest = λ i g. getD-set-other (t .places) j i p blankPlace (λ e. omega (arith, e, h, g, read-count c)) ∙ st .rest i g;
     }
@@ -112,7 +112,7 @@ module _ (x : LentState) where
       few = st .few;
       below = st .below;
       only = st .only;
-      narrow = λ i g. subst Narrow (sym (each-at (release w) blankPlace (t .count) (t .places) i (omega (arith, g, read-count c)) (omega (arith, c, st .places-64)))) (released-narrow w (placeAt t i) (st .narrow i g));
+      narrow = λ i g. subst NarrowPlace (sym (each-at (release w) blankPlace (t .count) (t .places) i (omega (arith, g, read-count c)) (omega (arith, c, st .places-64)))) (released-narrow w (placeAt t i) (st .narrow i g));
       rest = λ i g. each-past (release w) blankPlace (t .count) (t .places) i (omega (arith, g, read-count c)) ∙ st .rest i g;
     }
 

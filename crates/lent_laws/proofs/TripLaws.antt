@@ -38,7 +38,7 @@ unfolding recordPut
 kept-records s ws = rw (none-changed s (compared s), le-ltb (compared s) (compared s) (omega arith))
 
 -- ---- a place that fits its row
-pub record Narrow (p : Place) : Type 0 where
+pub record NarrowPlace (p : Place) : Type 0 where
   pub watch-8 : p .watch ≤ 255
   pub number-8 : p .number ≤ 255
   pub length-16 : p .length ≤ 65535
@@ -68,7 +68,7 @@ rows-eq l m i h = λ z. record {
 }
 
 -- the row that was written
-own-row : (l : List ℕ) (i : ℕ) (p : Place) → i * 5 + 5 ≤ length l → Narrow p → placeMeant (writeRow l i p) i ≡ p
+own-row : (l : List ℕ) (i : ℕ) (p : Place) → i * 5 + 5 ≤ length l → NarrowPlace p → placeMeant (writeRow l i p) i ≡ p
 own-row l i p h n =
     let a = set l (i * 5) (one (p .used)) in
     let b = set a (i * 5 + 1) (p .watch) in
@@ -108,11 +108,11 @@ module _ (s t : Shelf) (l : List ℕ) where
   below-row n m true i h = refl
   below-row n m false i h = rows-eq (writeRow m n (placeAt t n)) m i (λ x g g′. off-row m n (placeAt t n) x (inl (omega (arith, h, g′))))
 
-  this-row : (n : ℕ) (m : List ℕ) (b : Bool) → equalPlace (placeAt s n) (placeAt t n) ≡ b → n * 5 + 5 ≤ length m → Narrow (placeAt t n) → placeMeant m n ≡ placeAt s n → placeMeant (pick b m (writeRow m n (placeAt t n))) n ≡ placeAt t n
+  this-row : (n : ℕ) (m : List ℕ) (b : Bool) → equalPlace (placeAt s n) (placeAt t n) ≡ b → n * 5 + 5 ≤ length m → NarrowPlace (placeAt t n) → placeMeant m n ≡ placeAt s n → placeMeant (pick b m (writeRow m n (placeAt t n))) n ≡ placeAt t n
   this-row n m true e h w r = r ∙ from-place (placeAt s n) (placeAt t n) e
   this-row n m false e h w r = own-row m n (placeAt t n) h w
 
-  rows-after : (n : ℕ) → ((i : ℕ) → i < n → i * 5 + 5 ≤ length l) → ((i : ℕ) → i < n → placeMeant l i ≡ placeAt s i) → ((i : ℕ) → i < n → Narrow (placeAt t i))
+  rows-after : (n : ℕ) → ((i : ℕ) → i < n → i * 5 + 5 ≤ length l) → ((i : ℕ) → i < n → placeMeant l i ≡ placeAt s i) → ((i : ℕ) → i < n → NarrowPlace (placeAt t i))
       → (i : ℕ) → i < n → placeMeant (rowsBelow n s t l) i ≡ placeAt t i
   unfolding rowsBelow rowPut
   rows-after zero f g w i h = absurd (not-suc-le-zero h)
@@ -134,7 +134,7 @@ pub record Made (x : LentState) (t : Shelf) (j : ℕ) : Type 0 where
   pub few : length (x .watches) ≤ 16
   pub below : j < length (x .watches)
   pub only : (i : ℕ) → (i ≡ j → ⊥) → watchAt t i ≡ watchAt (meaning x) i
-  pub narrow : (i : ℕ) → i < rowsRead (x .places) → Narrow (placeAt t i)
+  pub narrow : (i : ℕ) → i < rowsRead (x .places) → NarrowPlace (placeAt t i)
   pub rest : (i : ℕ) → rowsRead (x .places) ≤ i → placeAt t i ≡ blankPlace
 
 module _ (x : LentState) (t : Shelf) (j : ℕ) (st : Made x t j) (area : List ℕ) where
