@@ -36,6 +36,7 @@ for name in test_judging test_reading test_text test_writing test_shelf test_len
 done
 compare layout rt fmt --check
 compare scope python3 tests/scope.py
+compare rules python3 tests/rules.py
 compare examples python3 examples/make.py --check
 compare lister_two_eits listed_as examples/two_eits
 compare lister_all_kinds listed_as examples/all_kinds

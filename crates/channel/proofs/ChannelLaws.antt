@@ -10,7 +10,7 @@ use Rattle.format.proofs.FieldLaws.{fields-end}
 use Rattle.descriptor.specs.Descriptors.{list10, noTag}
 use Rattle.descriptor.specs.Places.{listEnd}
 use Rattle.descriptor.proofs.ListLaws.{ListPassed, list10-passed}
-use Rattle.channel.specs.Format.{channel}
+use Rattle.channel.specs.Walked.{channel}
 use Rattle.channel.specs.Fields.{channelEnd}
 
 module _ (s : List ℕ) (end a b : ℕ) (w : walks channel s end a ≡ To b) where

@@ -8,12 +8,13 @@ use Rattle.format.specs.Lawful.{Lies, Bytes}
 use Rattle.format.specs.Laws.OfBytes.{lies-at, lies-split}
 use Rattle.format.specs.Laws.OfValues.{bytes-length}
 use Rattle.format.specs.Values.{number, bytesOf, valsAt, behind}
-use Rattle.format.specs.Named.{vals-there}
+use Rattle.format.specs.Laws.OfNamed.{vals-there}
 use Rattle.format.specs.Told.{sized10}
 use Rattle.descriptor.specs.Descriptors.{descriptors, noTag}
 use Rattle.descriptor.proofs.ListLaws.{list10-there}
 use Rattle.row.specs.Rows.{partRow}
-use Rattle.channel.specs.Format.{channelHead, headOf, nameIn, tuningIn, serviceIn, ChannelFields, channelFormat, channel}
+use Rattle.channel.specs.Format.{channelHead, headOf, nameIn, tuningIn, serviceIn, ChannelFields, channelFormat}
+use Rattle.channel.specs.Walked.{channel}
 use Rattle.channel.specs.Fields.{nameAt, tuningAt, serviceAt, descriptorsAt, channelEnd, channelAt, numbersRow, channelRow}
 use Rattle.channel.specs.Values.{descriptorsPlace, channelFor, rowFor}
 use Rattle.channel.proofs.ChannelLaws.{channel-ends}

@@ -85,7 +85,3 @@ channelFormat =
       descs = x .1 .1;
     })
     (λ x. refl) (λ y. refl)
-
--- the same, shut, for the walk that the code is held to (law `same-walk` of `tvct`)
-unfoldable pub channel : Format One
-channel = channelFormat

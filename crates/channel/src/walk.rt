@@ -7,7 +7,7 @@ ghost use mathlib.Core.Path.{_≡_};
 ghost use mathlib.Core.List.{[], _∷_};
 ghost use Rattle.bytes_at.specs.Walks.{many, fieldsTo};
 ghost use Rattle.format.specs.Formats.{walks};
-ghost use Rattle.channel.specs.Format.{channel};
+ghost use Rattle.channel.specs.Walked.{channel};
 
 // The fields of a channel before its descriptors. Those from ETM_location to the six bits begin in one
 // byte, so they are one step.

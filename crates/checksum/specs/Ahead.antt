@@ -1,5 +1,4 @@
 -- A number of 40 bits that stands for a register: the one that its division by the polynomial leaves.
--- Assumes nothing.
 use mathlib.Core.Path.{_≡_}
 use mathlib.Core.List.{List}
 use Prim.Native.Nat.{ℕ, _/_, _%_, _^_, _<_}

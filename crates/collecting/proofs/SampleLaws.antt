@@ -6,7 +6,7 @@ use mathlib.Core.List.{List, [], _∷_}
 use mathlib.Core.Option.{Option, none, some}
 use native.Mathlib.Omega.{arith}
 use lib.ListN.{length}
-use borrow.Author.Tests.{le-ltb}
+use borrow.Author.Tests.{le-leb}
 use Rattle.logic.specs.Choices.{ifEq, ifLt, pick}
 use Rattle.logic.specs.Loops.{_&_, _⇒_, all, any, first, sum}
 use Rattle.checksum.specs.Register.{bitIn, bitsIn, fourBytes, poly, registerFrom, sealed}
@@ -30,7 +30,7 @@ use Rattle.collecting.proofs.StretchLaws.{AllPlain, Harmless, all-plain
 use Rattle.collecting.proofs.KnownLaws.{Answers, Known, answers-end, answers-next, gives-bytes, goes, hearing, hears-it, refuses-14, refuses-19, refuses-before, refuses-for, tells-status}
 use Rattle.collecting.specs.Collecting.{Complete, Made, NoneRefused, Own, TableSection, Stretch, Table, stateAfter, deliver, here, no-more, one-more, ours, recorded, there}
 use Rattle.collecting.specs.Samples.{answers, answersIn, damaged, eit, eitHeader, eitKey, emptyState, fresh, mine, opening, section, start, theirs, turns}
-use Rattle.eit.specs.Format as E
+use Rattle.eit.specs.Walked as E
 
 -- ---- the sections
 word : (source : ℕ) → 0 + source ≡ source
@@ -45,13 +45,13 @@ fields source version number last v =
 
 pub eit-sound : (source version number last : ℕ) → version < 32 → number ≤ last → last ≤ 255
     → judged (eit source version number last) ≡ result (eitHeader source version number last)
-unfolding judged headerBy ofKind lengthTests checksumTest numberTests ifLt ifEq kindOf eit sealed fourBytes sectionBy verdictBy withBody bodyTest bodyOf then many ends bitsTo fieldsTo E.eit E.events
+unfolding judged headerBy ofKind lengthTests checksumTest numberTests ifLt ifEq kindOf eit sealed fourBytes sectionBy verdictBy withBody bodyTest bodyOf then many ends bitsTo fieldsTo E.eit E.events orRefuse
 eit-sound source version number last v n l =
-    rw (sealed-sound (0xCB ∷ 0xF0 ∷ 11 ∷ 0 ∷ source ∷ (0xC1 + 2 * version) ∷ number ∷ last ∷ 0 ∷ 0 ∷ []), le-ltb last number n, le-ltb 255 last l)
+    rw (sealed-sound (0xCB ∷ 0xF0 ∷ 11 ∷ 0 ∷ source ∷ (0xC1 + 2 * version) ∷ number ∷ last ∷ 0 ∷ 0 ∷ []), le-leb number last n, le-leb last 255 l)
     (ap result (fields source version number last v))
 
 pub damaged-refused : judged damaged ≡ refused 6
-unfolding judged headerBy ofKind lengthTests checksumTest ifLt ifEq kindOf eit sealed fourBytes sectionBy verdictBy withBody registerFrom bitsIn bitIn poly
+unfolding judged headerBy ofKind lengthTests checksumTest ifLt ifEq kindOf eit sealed fourBytes sectionBy verdictBy withBody registerFrom bitsIn bitIn poly orRefuse
 damaged-refused = refl
 
 pub eit-key : (pid source version number last : ℕ) → keyIn pid (eit source version number last) ≡ eitKey pid source

@@ -10,7 +10,10 @@ use lib.Dec.{eqb}
 use Rattle.format.specs.Formats.{One, Format, Filling, last, lastButOne, both, filledBy, seq, exact, anyBytes, choice, list, Full, under}
 use Rattle.format.specs.Values.{bits, reserved}
 use Rattle.format.specs.Named.{named}
-use Rattle.format.specs.Told.{Tells, told, told-full, all8, counting, few, sized12, sized10}
+use Rattle.format.specs.Heads.{Tells}
+use Rattle.format.specs.Told.{told, counting, few, sized12, sized10}
+use Rattle.format.specs.Laws.OfFull.{told-full}
+use Rattle.format.specs.Laws.OfTold.{all8}
 use Rattle.strings.specs.Strings.{text, sizedText}
 
 -- ---- the content advisory
@@ -62,15 +65,17 @@ pub record DescriptorFields : Type 0 where
   pub tag : ℕ
   pub content : AdvisoryFields ⊎ List ℕ
 
--- (laws, which may be skipped: what a head tells of what follows, and that no descriptor is empty)
+-- (a law: the reader behind a head tells its length and its tag)
 pub tag-tells : Tells (bits 8 ∷ []) 8 2 (both last lastButOne) (λ v m. (m, v .0))
 tag-tells h l z = let a = all8 h 1 z in let b = all8 h 0 z in λ i. (a i, b i)
 
+-- a tag, and so many bytes of what stands in a descriptor of that tag
 module _ (judged : ℕ) where
   abbrev pub tagged : Format One
   tagged = told (bits 8 ∷ []) 8 2 refl (both last lastButOne) (λ v m. (m, v .0)) tag-tells (filledBy 1 (content judged))
       (λ x. length (content judged .enc x)) (λ v m x o. o .0)
 
+  -- (a law: none is empty)
   pub tagged-full : Full tagged
   tagged-full = told-full (bits 8 ∷ []) 8 2 refl (both last lastButOne) (λ v m. (m, v .0)) tag-tells (filledBy 1 (content judged))
       (λ x. length (content judged .enc x)) (λ v m x o. o .0) (omega arith)

@@ -15,7 +15,8 @@ use Rattle.strings.proofs.TextLaws.{text-end, text-inside, text-sound}
 use Rattle.descriptor.specs.Descriptors.{descriptors, contentAdvisory, list12}
 use Rattle.descriptor.specs.Places.{listAt, listEnd}
 use Rattle.descriptor.proofs.ListLaws.{ListPassed, list12-passed}
-use Rattle.eit.specs.Format.{eventHead, event}
+use Rattle.eit.specs.Format.{eventHead}
+use Rattle.eit.specs.Walked.{event}
 use Rattle.eit.specs.Fields.{titlePart, descriptorsAt, eventEnd}
 
 module _ (s : List ℕ) (end a b : ℕ) (w : walks event s end a ≡ To b) where

@@ -12,7 +12,7 @@ use Rattle.logic.proofs.ChoiceLaws.{eq-yes, eq-no}
 use Rattle.format.specs.Formats.{walks, walksAll}
 use Rattle.format.proofs.FieldLaws.{fields-end}
 use Rattle.eit.specs.declared.search.Sought.the-variants.{At, Nowhere}
-use Rattle.eit.specs.Format.{event, events, eit}
+use Rattle.eit.specs.Walked.{event, events, eit}
 use Rattle.eit.specs.Fields.{countAt, firstAt, headAt, eventEnd}
 use Rattle.eit.specs.Questions.{findFrom}
 use Rattle.eit.specs.Inner.{Events}

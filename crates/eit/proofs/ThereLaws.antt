@@ -9,7 +9,7 @@ use Rattle.format.specs.Formats.{walksAll}
 use Rattle.format.specs.Laws.OfBytes.{lies-at, lies-split}
 use Rattle.format.specs.Laws.OfValues.{bytes-length}
 use Rattle.format.specs.Values.{number, bytesOf, behind}
-use Rattle.format.specs.Named.{vals-there}
+use Rattle.format.specs.Laws.OfNamed.{vals-there}
 use Rattle.format.specs.Told.{sized8, sized12}
 use Rattle.format.proofs.SizedLaws.{counted8-there}
 use Rattle.format.proofs.ListedLaws.{Stand}
@@ -21,7 +21,8 @@ use Rattle.descriptor.specs.Descriptors.{descriptors, contentAdvisory}
 use Rattle.descriptor.specs.Places.{listAt}
 use Rattle.descriptor.proofs.ListLaws.{list12-there}
 use Rattle.row.specs.Rows.{partRow}
-use Rattle.eit.specs.Format.{eventHead, headIn, headOf, EventFields, eventFormat, event, events, EitFields, eitFormat, eit}
+use Rattle.eit.specs.Format.{eventHead, headIn, headOf, EventFields, eventFormat, EitFields, eitFormat}
+use Rattle.eit.specs.Walked.{event, events, eit}
 use Rattle.eit.specs.Fields.{countAt, firstAt, fieldsAt, headAt, titlePart, descriptorsAt, eventEnd, titleAt, eventAt, timesRow, eventRow}
 use Rattle.eit.specs.Values.{titleFor, titlePlace, descriptorsPlace, eventFor, rowFor, fieldsFor}
 use Rattle.eit.proofs.EventLaws.{event-ends}

@@ -9,7 +9,7 @@ use Rattle.logic.proofs.ChoiceLaws.{eq-yes, eq-no}
 use Rattle.format.specs.Lawful.{Lies, Bytes, encs}
 use Rattle.format.specs.Values.{bits, bytesOf}
 use Rattle.format.specs.Laws.OfValues.{bytes-length}
-use Rattle.format.specs.Told.{counting-full}
+use Rattle.format.specs.Laws.OfFull.{counting-full}
 use Rattle.format.proofs.SizedLaws.{counted8-there}
 use Rattle.strings.specs.Strings.{text, structure, string, segment}
 use Rattle.eit.specs.Titles.{titleOf}

@@ -5,7 +5,7 @@ use mathlib.Core.List.{List, [], _∷_}
 use Rattle.format.specs.Formats.{One, Format, Filling, seq, exact, under, underAll}
 use Rattle.format.specs.Values.{Field, bits, reserved, Vals}
 use Rattle.format.specs.Named.{named}
-use Rattle.format.specs.Told.{counting, sized8, sized12}
+use Rattle.format.specs.Told.{counted8, sized8, sized12}
 use Rattle.strings.specs.Strings.{text}
 use Rattle.descriptor.specs.Descriptors.{descriptors, contentAdvisory}
 
@@ -49,21 +49,14 @@ EventFields = EventOf (text .Val) (descriptors contentAdvisory .Val)
 abbrev pub eventFormat : Format One
 eventFormat = eventOf text (descriptors contentAdvisory)
 
--- the same, shut, and what is made of it: the walk that the code is held to (law `same-walk`)
-unfoldable pub event : Format One
-event = eventFormat
-
 -- ---- the table
 -- count 8, and the events
-unfoldable pub events : Format One
-events = counting [] 0 refl event
-
 pub record EitOf (T D : Type 0) : Type 0 where
   pub events : List (EventOf T D)
 
 abbrev pub eitOf : Filling One → Filling One → Filling One
 eitOf t d =
-    underAll (exact (counting [] 0 refl (eventOf t d))) {Y = EitOf (t .Val) (d .Val)} (λ b. (record {}, b .events))
+    underAll (exact (counted8 (eventOf t d))) {Y = EitOf (t .Val) (d .Val)} (λ b. (record {}, b .events))
     (λ x. record { events = x .1 }) (λ x. refl) (λ y. refl)
 
 abbrev pub EitFields : Type 0
@@ -71,7 +64,3 @@ EitFields = EitOf (text .Val) (descriptors contentAdvisory .Val)
 
 abbrev pub eitFormat : Filling One
 eitFormat = eitOf text (descriptors contentAdvisory)
-
--- the same walk, shut, which the code is held to (law `same-walk`)
-unfoldable pub eit : Filling One
-eit = exact events

@@ -1,4 +1,4 @@
--- SCOPE 2.4 and 6, numbers 23 and 9: events that are given to be written, in rows of eight numbers as the rows of an EIT are read. The
+-- SCOPE 2.4, 7.1 and 7.2, and 6, numbers 23 and 9: events that are given to be written, in rows of eight numbers as the rows of an EIT are read. The
 -- places of titles and of descriptor lists are parts of one list of bytes.
 use Prim.Native.Nat.{ℕ, zero, suc, _+_}
 use mathlib.Core.Bool.{Bool, true, false}

@@ -6,7 +6,7 @@ use mathlib.Core.List.{List}
 use lib.ListN.{length}
 use Rattle.bytes_at.specs.Walks.{many, Stands}
 use Rattle.format.specs.Formats.{walks}
-use Rattle.eit.specs.Format.{event}
+use Rattle.eit.specs.Walked.{event}
 use Rattle.eit.specs.Given.{rowFits, rowsFit, rowSound, rowsSound}
 
 -- n events stand one after the other, the first at a, in a container that ends at `end`

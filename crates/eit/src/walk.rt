@@ -10,7 +10,7 @@ use strings::sized_text;
 ghost use mathlib.Core.Path.{_≡_};
 ghost use Rattle.bytes_at.specs.Walks.{many};
 ghost use Rattle.format.specs.Formats.{walks, walksAll};
-ghost use Rattle.eit.specs.Format.{event, events, eit};
+ghost use Rattle.eit.specs.Walked.{event, events, eit};
 
 fn one_event(s: &[u8], end: usize, at: usize) -> Walk
     ensures { λ r. ⌜ r ≡ walks event (now (s .entry)) end at ⌝ }

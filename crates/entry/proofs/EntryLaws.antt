@@ -1,16 +1,15 @@
 -- The entries of a section that was judged stand one after the other within it, so that 9 does not come a second time.
 use Prim.Native.Nat.{ℕ, _-_, _≤_, _<_}
-use mathlib.Core.Path.{_≡_, sym, ap, subst}
+use mathlib.Core.Path.{_≡_, refl, sym, subst}
 use mathlib.Core.List.{List}
 use native.Mathlib.Omega.{arith}
 use lib.ListN.{length}
-use Rattle.bytes_at.specs.declared.Walk.{Walk}
-use Rattle.bytes_at.specs.declared.Walk.the-variants.{To, Bad}
+use Rattle.bytes_at.specs.declared.Walk.the-variants.{To}
 use Rattle.bytes_at.specs.Walks.{many, Stands, standing}
 use Rattle.bytes_at.proofs.WalkLaws.{many-in, reached, stands-at, standing-to, standing-is}
-use Rattle.logic.proofs.ChoiceLaws.{lt-yes}
-use Rattle.refusal.specs.Outcomes.{refused, result, after}
-use Rattle.refusal.proofs.OutcomeLaws.{not-both, after-is}
+use Rattle.refusal.specs.Outcomes.{Outcome, refused, result, after}
+use Rattle.refusal.proofs.OutcomeLaws.{after-is}
+use Rattle.refusal.proofs.TestLaws.{lets-lt, stops-lt, passed-lt}
 use Rattle.kind.specs.Kinds.{onlyOf}
 use Rattle.format.specs.Formats.{walks}
 use Rattle.mgt.proofs.DefinedLaws.{defined-forward}
@@ -24,7 +23,6 @@ use Rattle.section.specs.declared.header.Header.{Header}
 use Rattle.section.specs.Bodies.{bodyOf}
 use Rattle.section.specs.Sections.{bodyWalk, sectionBy}
 use Rattle.section.proofs.KindLaws.{start-fits}
-use Rattle.section.proofs.PassLaws.{is-less}
 use Rattle.section.proofs.SectionLaws.{section-sound}
 use Rattle.entry.specs.declared.Entry.{Entry}
 use Rattle.entry.specs.declared.Entry.the-variants.{Table, Channel, Dimension, Event}
@@ -33,6 +31,17 @@ use Rattle.entry.specs.declared.Spot.the-variants.{At}
 use Rattle.entry.specs.Entries.{kindOfEntry, startOf, formatOf, entryCount, firstEntry, entryWalk, spotIn, spotOf, restIn}
 use Rattle.entry.specs.Inner.{Begins, Inside}
 
+-- ---- an entry that is counted begins where the walk stands, and 13 where it is not
+module _ (e : Entry) (s : List ℕ) (i : ℕ) where
+  pub spot-there : {r : Outcome ℕ} → i < entryCount e s → r ≡ standing (entryWalk e s i) → r ≡ spotIn e s i
+  unfolding spotIn
+  spot-there h w = lets-lt 13 i (entryCount e s) (standing (entryWalk e s i)) h w
+
+  pub spot-none : entryCount e s ≤ i → refused 13 ≡ spotIn e s i
+  unfolding spotIn
+  spot-none h = stops-lt 13 i (entryCount e s) (standing (entryWalk e s i)) h refl
+
+-- ---- where the entries of a section stand
 -- an entry ends where its container does or before
 pub entry-inside : (e : Entry) (s : List ℕ) (end a b : ℕ) → walks (formatOf e) s end a ≡ To b → b ≤ end
 unfolding formatOf
@@ -71,12 +80,12 @@ module _ (e : Entry) (s : List ℕ) (h : Header) (judged : sectionBy (onlyOf (ki
 
   -- an entry that the section has is found, and so is what follows them all
   pub entry-found : (i : ℕ) → i < entryCount e s → (a : ℕ) × (spotOf e s i ≡ result a)
-  unfolding spotOf spotIn entryWalk after
+  unfolding spotOf entryWalk after
   entry-found i l =
       let j = judged-entries in
       let r = reached _ i (entryCount e s) (firstEntry e s) (j .0) (omega arith) (j .1) in
       let w = standing-to _ _ (r .1) in
-      (r .0, rw judged (sym (lt-yes i (entryCount e s) (standing (entryWalk e s i)) (refused 13) {r = result (r .0)} l w)))
+      (r .0, rw judged (sym (spot-there e s i {r = result (r .0)} l w)))
 
   pub rest-found : (b : ℕ) × (restIn e s ≡ result b)
   unfolding restIn
@@ -87,7 +96,7 @@ pub entry-stands : (e : Entry) (s : List ℕ) (i a : ℕ) → spotOf e s i ≡ r
 unfolding spotOf spotIn entryWalk
 entry-stands e s i a q =
     let h = after-is (sectionBy (onlyOf (kindOfEntry e)) s) _ a q in
-    let l = is-less i (entryCount e s) 13 _ a (h .1 .1) in
+    let l = passed-lt 13 i (entryCount e s) _ a (h .1 .1) in
     let w = standing-is (entryWalk e s i) a (l .1) in
     let j = judged-entries e s (h .0) (h .1 .0) in
     stands-at _ i (entryCount e s) (firstEntry e s) a (j .0) (l .0) (j .1) w

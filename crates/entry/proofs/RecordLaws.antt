@@ -5,25 +5,26 @@ use mathlib.Core.Logic.{⊎-elim}
 use mathlib.Core.List.{List}
 use native.Mathlib.Nat.{eq-zero-or-pos}
 use native.Mathlib.Omega.{arith}
+use lib.Dec.{ltb}
 use lib.ListN.{length}
 use Rattle.bytes_at.proofs.WalkLaws.{standing-to}
 use Rattle.bytes_at.specs.Walks.{many, standing}
-use Rattle.logic.specs.Choices.{ifLt}
-use Rattle.logic.proofs.ChoiceLaws.{lt-yes, lt-no}
-use Rattle.refusal.specs.Outcomes.{Outcome, refused, result, after}
+use Rattle.refusal.specs.Outcomes.{Outcome, refused, result, after, orRefuse}
+use Rattle.refusal.proofs.TestLaws.{lets-lt, stops-lt}
 use Rattle.format.specs.Lawful.{Lies, Bytes, encs}
 use Rattle.format.specs.Formats.{One, Format, walks}
 use Rattle.format.specs.Listed.{nthOf}
 use Rattle.format.proofs.ListedLaws.{Stand, all-walk, nth-told, nth-absent}
-use Rattle.mgt.specs.Format.{defined}
+use Rattle.mgt.specs.Walked.{defined}
 use Rattle.mgt.proofs.ThereLaws as mgts
-use Rattle.channel.specs.Format.{channel}
+use Rattle.channel.specs.Walked.{channel}
 use Rattle.tvct.proofs.ThereLaws as tvcts
-use Rattle.rrt.specs.Format.{value, valueFormat, DimensionFields, dimensionFormat, dimension}
+use Rattle.rrt.specs.Format.{valueFormat, DimensionFields, dimensionFormat}
+use Rattle.rrt.specs.Walked.{value, dimension}
 use Rattle.rrt.specs.Fields.{valuesAt}
 use Rattle.rrt.specs.Values.{firstValueFor}
 use Rattle.rrt.proofs.ThereLaws as rrts
-use Rattle.eit.specs.Format.{event}
+use Rattle.eit.specs.Walked.{event}
 use Rattle.eit.proofs.ThereLaws as eits
 use Rattle.section.specs.Encoding.{Section, encode, WellFormed}
 use Rattle.section.proofs.EncodingLaws.{body-lies, body-ends, encode-bytes, accepts}
@@ -37,16 +38,16 @@ module _ (f : Format One) (s : List ℕ) (end : ℕ) {A : Type 0} (answer : ℕ 
     (same : (a : ℕ) (x : f .Val) → f .Ok (record {}) x → Lies (f .enc x) s a → a + length (f .enc x) ≤ end → answer a ≡ told a x)
     (first : ℕ) (xs : List (f .Val)) (g : Stand f s end first xs) where
   pub counted-told : (i n : ℕ) → n ≡ length xs
-      → after (ifLt i n (standing (many (walks f s end) i first)) (refused 13)) answer ≡ nthOf (f .enc) told (refused 13) first xs i
+      → after (orRefuse 13 (ltb i n) (standing (many (walks f s end) i first))) answer ≡ nthOf (f .enc) told (refused 13) first xs i
   unfolding after
   counted-told i n c = ⊎-elim
       (λ h.
       let u = nth-told f s end answer told (refused 13) same first xs i g (omega arith) in
       let w = standing-to _ _ (u .1 .0) in
-      rw (sym (lt-yes i n (standing (many (walks f s end) i first)) (refused 13) {r = result (u .0)} (omega arith) w)) (u .1 .1))
+      rw (sym (lets-lt 13 i n (standing (many (walks f s end) i first)) {r = result (u .0)} (omega arith) w)) (u .1 .1))
       (λ h.
       let u = nth-absent f s end answer told (refused 13) same first xs i (omega arith) in
-      rw (sym (lt-no i n (standing (many (walks f s end) i first)) (refused 13) {r = refused 13} (omega arith) refl)) (sym u))
+      rw (sym (stops-lt 13 i n (standing (many (walks f s end) i first)) {r = refused 13} (omega arith) refl)) (sym u))
       (eq-zero-or-pos (suc i - n))
 
 -- ---- the entries of a record
@@ -90,7 +91,7 @@ module _ (e : Entry) (y : Section (kindOfEntry e)) (o : WellFormed (kindOfEntry 
     pub spot-in-told : (i : ℕ) → after (spotIn e (encode y) i) answer ≡ ofEntry e told i y
     unfolding spotIn
     spot-in-told i =
-        ap (λ w. after (ifLt i (entryCount e (encode y)) (standing w) (refused 13)) answer) (entry-walk i)
+        ap (λ w. after (orRefuse 13 (ltb i (entryCount e (encode y))) (standing w)) answer) (entry-walk i)
         ∙ counted-told (recordOf e) (encode y) (length (encode y) - 4) answer told same (beginOf e y) (entriesOf e y) (counted e y o .1) i
         (entryCount e (encode y)) (counted e y o .0 .0)
 
@@ -130,5 +131,5 @@ module _ (s : List ℕ) (z : Bytes s) (d : ℕ) (x : DimensionFields) (o : dimen
       let t = rrts.values-there s z d x o l (length s - 4) inside in
       let f = rrts.first-value-there s z d x o l in
       let g = subst (λ a. Stand valueFormat s (length s - 4) a (x .values)) f (t .1) in
-      (λ i. after (ifLt j (valuesAt s d) (standing (many (λ a. value-walk s (length s - 4) a i) j (f i))) (refused 13)) answer)
+      (λ i. after (orRefuse 13 (ltb j (valuesAt s d)) (standing (many (λ a. value-walk s (length s - 4) a i) j (f i)))) answer)
       ∙ counted-told valueFormat s (length s - 4) answer told same (firstValueFor d x) (x .values) g j (valuesAt s d) (t .0)

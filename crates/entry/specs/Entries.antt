@@ -2,22 +2,22 @@
 use Prim.Native.Nat.{ℕ, _-_}
 use mathlib.Core.List.{List}
 use lib.ListN.{length}
-use Rattle.logic.specs.Choices.{ifLt}
+use lib.Dec.{ltb}
 use Rattle.bytes_at.specs.declared.Walk.{Walk}
 use Rattle.bytes_at.specs.Walks.{many, standing}
 use Rattle.refusal.specs.Numbers.{numberOf}
-use Rattle.refusal.specs.Outcomes.{Outcome, refused, result, after}
+use Rattle.refusal.specs.Outcomes.{Outcome, refused, result, after, orRefuse}
 use Rattle.kind.specs.declared.Kind.{Kind}
 use Rattle.kind.specs.declared.Kind.the-variants.{Mgt, Tvct, Rrt, Eit}
 use Rattle.kind.specs.Kinds.{limitsOf, onlyOf}
 use Rattle.format.specs.Formats.{One, Format, walks}
-use Rattle.mgt.specs.Format.{defined}
+use Rattle.mgt.specs.Walked.{defined}
 use Rattle.mgt.specs.Fields as mgts
-use Rattle.channel.specs.Format.{channel}
+use Rattle.channel.specs.Walked.{channel}
 use Rattle.tvct.specs.Fields as tvcts
-use Rattle.rrt.specs.Format.{value, dimension}
+use Rattle.rrt.specs.Walked.{value, dimension}
 use Rattle.rrt.specs.Fields as rrts
-use Rattle.eit.specs.Format.{event}
+use Rattle.eit.specs.Walked.{event}
 use Rattle.eit.specs.Fields as eits
 use Rattle.section.specs.Sections.{sectionBy}
 use Rattle.entry.specs.declared.Entry.{Entry}
@@ -63,7 +63,7 @@ entryWalk e s i = many (walks (formatOf e) s (length s - 4)) i (firstEntry e s)
 
 -- 13 where there is no entry i. In a section that was judged the walk always stands: laws `entry-found` and `rest-found`
 unfoldable pub spotIn : Entry → List ℕ → ℕ → Outcome ℕ
-spotIn e s i = ifLt i (entryCount e s) (standing (entryWalk e s i)) (refused 13)
+spotIn e s i = orRefuse 13 (ltb i (entryCount e s)) (standing (entryWalk e s i))
 
 unfoldable pub spotOf : Entry → List ℕ → ℕ → Outcome ℕ
 spotOf e s i = after (sectionBy (onlyOf (kindOfEntry e)) s) (λ h. spotIn e s i)
@@ -74,7 +74,7 @@ restIn e s = standing (entryWalk e s (entryCount e s))
 
 -- value j of an RRT's dimension that begins at d: it begins where the walk past j values stands; 13 where there is none
 unfoldable pub valueSpot : List ℕ → ℕ → ℕ → Outcome ℕ
-valueSpot s d j = ifLt j (rrts.valuesAt s d) (standing (many (walks value s (length s - 4)) j (rrts.firstValueAt s d))) (refused 13)
+valueSpot s d j = orRefuse 13 (ltb j (rrts.valuesAt s d)) (standing (many (walks value s (length s - 4)) j (rrts.firstValueAt s d)))
 
 abbrev pub spotOutcome : Spot → Outcome ℕ
 spotOutcome (Refused k) = refused (numberOf k)

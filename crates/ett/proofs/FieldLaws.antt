@@ -10,10 +10,11 @@ use Rattle.format.specs.Lawful.{Lies}
 use Rattle.format.specs.Laws.OfBytes.{lies-at, lies-split}
 use Rattle.format.specs.Laws.OfValues.{bytes-length}
 use Rattle.format.specs.Formats.{walksAll}
-use Rattle.format.specs.Named.{vals-there}
+use Rattle.format.specs.Laws.OfNamed.{vals-there}
 use Rattle.format.specs.Values.{Vals, number, bytesOf, behind}
 use Rattle.strings.specs.Strings.{text, structure, asText}
-use Rattle.ett.specs.Format.{etmHead, EttFields, ettFormat, ett}
+use Rattle.ett.specs.Format.{etmHead, EttFields, ettFormat}
+use Rattle.ett.specs.Walked.{ett}
 use Rattle.ett.specs.Fields.{fieldsAt}
 use Rattle.ett.specs.Values.{fieldsFor}
 

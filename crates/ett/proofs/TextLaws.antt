@@ -13,7 +13,8 @@ use Rattle.format.specs.Formats.{walks, walksAll}
 use Rattle.format.specs.Values.{behind}
 use Rattle.format.proofs.FieldLaws.{fields-end}
 use Rattle.strings.specs.Strings.{text, structure}
-use Rattle.ett.specs.Format.{etmHead, ett}
+use Rattle.ett.specs.Format.{etmHead}
+use Rattle.ett.specs.Walked.{ett}
 
 -- a structure that fills its container is a text
 structure-text : (s : List ℕ) (end at : ℕ) → walks structure s end at ≡ To end → walksAll text s end at ≡ To end

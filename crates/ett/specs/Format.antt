@@ -27,7 +27,3 @@ EttFields = EttOf (structure .Val)
 
 abbrev pub ettFormat : Filling One
 ettFormat = ettOf (exact structure)
-
--- the same walk, shut, which the code is held to (law `same-walk`)
-unfoldable pub ett : Filling One
-ett = ettFormat

@@ -5,7 +5,7 @@ use bytes_at::skip;
 use strings::all_strings;
 ghost use mathlib.Core.Path.{_≡_};
 ghost use Rattle.format.specs.Formats.{walksAll};
-ghost use Rattle.ett.specs.Format.{ett};
+ghost use Rattle.ett.specs.Walked.{ett};
 
 // The body from `at` to `end`.
 pub fn body(s: &[u8], end: usize, at: usize) -> Walk

@@ -10,7 +10,8 @@ use Rattle.format.specs.Formats.{One, Format, Filling, last, lastWord, t
 use Rattle.bytes_at.specs.Bits.{bitsAt}
 use Rattle.bytes_at.proofs.BitLaws.{bits-low, byte-bits, word-bits, all-at, low-at}
 use Rattle.format.specs.Values.{Field, reserved, width, Vals, valsAt}
-use Rattle.format.specs.Told.{told-there, last-tells, low8-tells, low16-tells, sized8, sized12, sized10, counted8, notNone, fewNotNone, counted16}
+use Rattle.format.specs.Laws.OfTold.{told-there, last-tells, low8-tells, low16-tells}
+use Rattle.format.specs.Told.{sized8, sized12, sized10, counted8, notNone, fewNotNone, counted16}
 
 module _ (s : List ℕ) (z : Bytes s) (at : ℕ) where
   pub sized8-there : (f : Filling One) (x : f .Val) → sized8 f .Ok (record {}) (record {}, x) → Lies (sized8 f .enc (record {}, x)) s at

@@ -21,7 +21,7 @@ use Rattle.format.specs.Laws.OfContainers.{filled-law, exact-law, before
 use Rattle.format.specs.Laws.OfRepeats.{times-law, some-law, list-law}
 
 -- ---- what a format is. `law`, and `same` of a reader, are proofs and may be skipped: a format is its `Val`, `Ok`, `enc` and `walk`
--- what is told where nothing is
+-- nothing is told
 abbrev pub One : Type 0
 One = record {}
 

@@ -3,3 +3,6 @@ pub mod OfHeads
 pub mod OfContainers
 pub mod OfRepeats
 pub mod OfValues
+pub mod OfNamed
+pub mod OfTold
+pub mod OfFull

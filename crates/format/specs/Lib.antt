@@ -4,5 +4,6 @@ pub mod Laws
 pub mod Formats
 pub mod Values
 pub mod Named
+pub mod Heads
 pub mod Told
 pub mod Listed

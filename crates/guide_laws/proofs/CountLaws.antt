@@ -9,6 +9,7 @@ use Rattle.logic.proofs.LoopLaws.{and-left}
 use Rattle.refusal.specs.Outcomes.{Outcome, result}
 use Rattle.refusal.specs.Outputs.{counted}
 use Rattle.refusal.proofs.OutcomeLaws.{after-is, same-result, went-on}
+use Rattle.refusal.proofs.TestLaws.{passed-le}
 use Rattle.kind.specs.declared.Kind.{Kind}
 use Rattle.kind.specs.declared.Kind.the-variants.{Rrt, Eit, Ett}
 use Rattle.kind.specs.Kinds.{onlyOf, limitsOf}
@@ -17,7 +18,6 @@ use Rattle.rrt.specs.Fields.{dimensionEnd}
 use Rattle.section.specs.Sections.{sectionBy}
 use Rattle.section.specs.Writing.{lengthFits}
 use Rattle.writing.specs.Written.{allowed, eitWritten, ettWritten}
-use Rattle.section.proofs.PassLaws.{not-less}
 use Rattle.strings.specs.Places.{textEnd}
 use Rattle.entry.specs.declared.Entry.{Entry}
 use Rattle.entry.specs.declared.Entry.the-variants.{Table, Channel, Dimension, Event}
@@ -43,7 +43,7 @@ module _ (s : List ℕ) (bytes : Bytes s) where
   -- a count for which there is room
   room-whole : (w n room : ℕ) → n < 4294967296 → Whole oneNumber (roomForRows w n room)
   unfolding roomForRows
-  room-whole w n room h a e = told-whole oneNumber n a (not-less room (w * n) 12 _ a e .1) (h, record {})
+  room-whole w n room h a e = told-whole oneNumber n a (passed-le 12 (w * n) room _ a e .1) (h, record {})
 
   rows-whole : (r : Row) (room : ℕ) → Whole oneNumber (rowsOf r s room)
   unfolding rowsOf rowsIn
@@ -67,8 +67,8 @@ module _ (s : List ℕ) (bytes : Bytes s) where
   unfolding titles.titlesOf titles.titlesIn titles.roomForTitles
   titles-whole rows units a e =
       let p = after-is (sectionBy (onlyOf Eit) s) _ a e in
-      let q = not-less rows _ 12 _ a (p .1 .1) in
-      let t = not-less units _ 12 _ a (q .1) in
+      let q = passed-le 12 (12 * titles.eventCount s) rows _ a (p .1 .1) in
+      let t = passed-le 12 (length (titles.unitsFrom s (titles.eventCount s) titles.firstEvent)) units _ a (q .1) in
       let n = judged-size Eit s (p .0) (p .1 .0) in
       let few = units-few s (titles.eventCount s) titles.firstEvent (judged-events s (p .0) (p .1 .0)) in
       told-whole countsNumbers _ a (t .1) (omega (arith, bytes 9), (omega (arith, n, few), record {}))

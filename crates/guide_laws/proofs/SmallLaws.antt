@@ -1,5 +1,5 @@
 -- Numbers of 32 bits, and what is one: a byte, a word, some bits, a place in a section.
-use Prim.Native.Nat.{ℕ, zero, suc, _+_, _-_, _^_, _≤_, _<_}
+use Prim.Native.Nat.{ℕ, _+_, _-_, _≤_, _<_}
 use mathlib.Core.Path.{_≡_, refl, sym, subst}
 use mathlib.Core.Bool.{Bool, true, false}
 use mathlib.Core.List.{List, map, [], _∷_, _++_}
@@ -8,11 +8,11 @@ use lib.ListN.{length}
 use Rattle.logic.specs.Choices.{pick}
 use Rattle.refusal.specs.Outcomes.{Outcome, result}
 use Rattle.refusal.proofs.OutcomeLaws.{after-is, same-result}
+use Rattle.refusal.proofs.TestLaws.{passed-lt}
 use Rattle.kind.specs.declared.Kind.{Kind}
 use Rattle.kind.specs.declared.Kind.the-variants.{Mgt, Tvct, Rrt, Eit, Ett}
 use Rattle.kind.specs.Kinds.{limitsOf, onlyOf}
 use Rattle.bytes_at.specs.Fields.{wordAt}
-use Rattle.bytes_at.specs.Bits.{bitAt, bitsAt}
 use Rattle.format.specs.Formats.{One}
 use Rattle.format.specs.Lawful.{Bytes}
 use Rattle.part.specs.declared.Part.{Part}
@@ -21,7 +21,6 @@ use Rattle.strings.specs.Places.{textAt, textEnd}
 use Rattle.descriptor.specs.Places.{listAt}
 use Rattle.section.specs.declared.header.Header.{Header}
 use Rattle.section.specs.Sections.{sectionBy}
-use Rattle.section.proofs.PassLaws.{is-less}
 use Rattle.section.proofs.SectionLaws.{section-sound}
 use Rattle.entry.specs.declared.Entry.{Entry}
 use Rattle.entry.specs.declared.Entry.the-variants.{Dimension}
@@ -29,7 +28,7 @@ use Rattle.entry.specs.Entries.{kindOfEntry, spotOf, spotIn, restIn, entryWalk,
 use Rattle.bytes_at.proofs.WalkLaws.{standing-is}
 use Rattle.entry.proofs.EntryLaws.{entries-inside, judged-begins}
 use Rattle.entry.proofs.ValueLaws.{values-inside}
-use Rattle.rrt.specs.Format.{value}
+use Rattle.rrt.specs.Walked.{value}
 use Rattle.rrt.specs.Fields.{valuesAt, firstValueAt}
 use Rattle.bytes_at.specs.Walks.{many}
 use Rattle.format.specs.Formats.{walks}
@@ -60,15 +59,6 @@ picked P true a b h g = h
 picked P false a b h g = g
 
 -- ---- fields
-bit-small : (s : List ℕ) (p : ℕ) → bitAt s p < 2
-unfolding bitAt
-bit-small s p = omega arith
-
-pub bits-small : (s : List ℕ) (p w : ℕ) → bitsAt s p w < 2 ^ w
-unfolding bitsAt
-bits-small s p zero = omega arith
-bits-small s p (suc w) = let h = bits-small s p w in let b = bit-small s (p + w) in omega arith
-
 pub word-small : (s : List ℕ) → Bytes s → (i : ℕ) → wordAt s i < 65536
 word-small s g i = omega (arith, g i, g (i + 1))
 
@@ -88,7 +78,7 @@ pub spot-small : (e : Entry) (s : List ℕ) (i a : ℕ) → spotOf e s i ≡ res
 unfolding spotOf spotIn
 spot-small e s i a q =
     let h = after-is (sectionBy (onlyOf (kindOfEntry e)) s) _ a q in
-    let l = is-less i (entryCount e s) 13 _ a (h .1 .1) in
+    let l = passed-lt 13 i (entryCount e s) _ a (h .1 .1) in
     let w = standing-is (entryWalk e s i) a (l .1) in
     let n = entries-inside e s i a (judged-begins e s (h .0) (h .1 .0)) w in
     omega (arith, n, judged-size (kindOfEntry e) s (h .0) (h .1 .0))
@@ -104,7 +94,7 @@ pub value-small : (s : List ℕ) (i d j a : ℕ) → spotOf Dimension s i ≡ re
 unfolding spotOf valueSpot
 value-small s i d j a p q =
     let h = after-is (sectionBy (onlyOf (kindOfEntry Dimension)) s) _ d p in
-    let l = is-less j (valuesAt s d) 13 _ a q in
+    let l = passed-lt 13 j (valuesAt s d) _ a q in
     let w = standing-is (many (walks value s (length s - 4)) j (firstValueAt s d)) a (l .1) in
     omega (arith, values-inside s d j a (l .0) w, judged-size Rrt s (h .0) (h .1 .0))
 

@@ -9,6 +9,7 @@ use lib.ListN.{length, take, drop, length-take, length-drop}
 use Rattle.logic.specs.Choices.{ifEq}
 use Rattle.refusal.specs.Outcomes.{Outcome, refused, result}
 use Rattle.refusal.proofs.OutcomeLaws.{after-is, same-result, not-both}
+use Rattle.refusal.proofs.TestLaws.{passed-le}
 use Rattle.kind.specs.Kinds.{onlyOf}
 use Rattle.bytes_at.specs.Fields.{byteAt}
 use Rattle.format.specs.Lawful.{Bytes}
@@ -22,7 +23,6 @@ use Rattle.text.specs.Strings.{stringCount, stringAt, stringReplaced, stringHea
 use Rattle.text.specs.Texts.{ofField, fitting, fieldCount, fieldUnits, fieldReplaced, fieldHeading}
 use Rattle.text.proofs.AmountLaws.{none-joined}
 use Rattle.text.proofs.FewLaws.{few-units}
-use Rattle.section.proofs.PassLaws.{not-less}
 use Rattle.section.specs.Sections.{sectionBy}
 use Rattle.section_text.specs.declared.field.Which.{Which}
 use Rattle.section_text.specs.Fields.{kindFor, fieldOf}
@@ -60,7 +60,7 @@ fitted : (room : ℕ) (x : Outcome (List ℕ)) (us : List ℕ) → fitting room 
 unfolding fitting
 fitted room x us e =
     let p = after-is x _ us e in
-    let q = not-less room (length (p .0)) 12 _ us (p .1 .1) in
+    let q = passed-le 12 (length (p .0)) room _ us (p .1 .1) in
     rw (← same-result (p .0) us (q .1)) (p .1 .0)
 
 -- an amount of few units, none of which stand for a replaced segment

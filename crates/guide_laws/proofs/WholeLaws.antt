@@ -2,11 +2,11 @@
 use Prim.Native.Nat.{ℕ, _+_, _*_, _-_, _^_, _≤_, _<_}
 use mathlib.Core.Path.{_≡_, sym, subst}
 use mathlib.Core.List.{List, map, [], _∷_}
-use mathlib.Core.Bool.{Bool, true, false}
 use lib.Dec.{eqb}
 use native.Mathlib.Omega.{arith}
 use lib.ListN.{length}
-use Rattle.refusal.specs.Outcomes.{Outcome, refused, result}
+use Rattle.bytes_at.proofs.BitLaws.{bits-lt}
+use Rattle.refusal.specs.Outcomes.{Outcome, result}
 use Rattle.refusal.proofs.OutcomeLaws.{after-is, went-on}
 use Rattle.kind.specs.declared.Kind.{Kind}
 use Rattle.kind.specs.declared.Kind.the-variants.{Mgt, Tvct, Rrt, Eit, Ett}
@@ -26,7 +26,7 @@ use Rattle.ett.specs.Fields as ett
 use Rattle.eit.specs.declared.event.Title.{Title}
 use Rattle.eit.specs.declared.event.Title.the-variants.{None, NoStrings, Text}
 use Rattle.eit.specs.Titles.{titleOf}
-use Rattle.logic.specs.Choices.{pick, ifEq}
+use Rattle.logic.specs.Choices.{ifEq}
 use Rattle.strings.specs.Places.{textAt, textEnd}
 use Rattle.rating.specs.Ratings.{descriptorIn, textIn}
 use Rattle.section.specs.declared.header.Header.{Header}
@@ -48,7 +48,7 @@ use Rattle.guide_laws.specs.Whole.{Whole, TablesWhole, EventWhole, ListW
 use Rattle.guide_laws.proofs.AskedLaws.{rating-small, descriptor-small, text-small-in, or-none-whole}
 use Rattle.guide_laws.proofs.TextLaws.{fields-whole, texts-whole}
 use Rattle.guide_laws.proofs.CountLaws.{counts-whole, written-whole}
-use Rattle.guide_laws.proofs.SmallLaws.{Small, small-whole, told-whole, picked, small-join, bits-small, word-small, judged-size, spot-small, rest-small, value-small, part-small, list12-small, list10-small, text-small, text-end}
+use Rattle.guide_laws.proofs.SmallLaws.{Small, small-whole, told-whole, picked, small-join, word-small, judged-size, spot-small, rest-small, value-small, part-small, list12-small, list10-small, text-small, text-end}
 
 table-id-small : (k : Kind) → tableIdOf k < 256
 table-id-small Mgt = omega arith
@@ -82,12 +82,12 @@ module _ (s : List ℕ) (bytes : Bytes s) where
   defined-small : (a : ℕ) → a ≤ 4096 → Small (definedNumbers (mgt.definedAt s a))
   unfolding definedNumbers mgt.definedAt mgt.descriptorsAt
   defined-small a h = (
-    omega (arith, bits-small s (8 * a + 0) 16),
+    omega (arith, bits-lt s (8 * a + 0) 16),
     (
-      omega (arith, bits-small s (8 * a + 19) 13),
+      omega (arith, bits-lt s (8 * a + 19) 13),
       (
-        omega (arith, bits-small s (8 * a + 35) 5),
-        (omega (arith, bits-small s (8 * a + 40) 32), list12-small s (a + 9) (omega arith)),
+        omega (arith, bits-lt s (8 * a + 35) 5),
+        (omega (arith, bits-lt s (8 * a + 40) 32), list12-small s (a + 9) (omega arith)),
       ),
     ),
   )
@@ -109,7 +109,7 @@ module _ (s : List ℕ) (bytes : Bytes s) where
   channel-small : (a : ℕ) → a ≤ 4096 → Small (channelNumbers (channel.channelAt s a))
   unfolding channelNumbers channel.channelAt channel.numbersRow channel.nameRow channel.tuningRow channel.serviceRow channel.nameAt channel.tuningAt channel.serviceAt channel.descriptorsAt
   channel-small a h =
-      let f : (o w : ℕ) → bitsAt s (8 * a + o) w < 2 ^ w = λ o w. bits-small s (8 * a + o) w in (
+      let f : (o w : ℕ) → bitsAt s (8 * a + o) w < 2 ^ w = λ o w. bits-lt s (8 * a + o) w in (
         omega (arith, f 0 16),
         (
           omega (arith, f 16 16),
@@ -194,7 +194,7 @@ module _ (s : List ℕ) (bytes : Bytes s) where
   unfolding dimensionNumbers rrt.dimensionAt
   dimension-small d h =
       small-join (partRow (textAt s d)) (bitsAt s (8 * textEnd s d + 3) 1 ∷ rrt.valuesAt s d ∷ []) (text-small s bytes d (omega arith))
-      (omega (arith, bits-small s (8 * textEnd s d + 3) 1), (omega arith, record {}))
+      (omega (arith, bits-lt s (8 * textEnd s d + 3) 1), (omega arith, record {}))
 
   dimension-whole : (i : ℕ) → Whole dimensionNumbers (rrts.entryOf s i)
   unfolding rrts.entryOf
@@ -223,7 +223,7 @@ module _ (s : List ℕ) (bytes : Bytes s) where
 
   ett-small : (x n : ℕ) → x < 65536 → n ≤ 4096 → Small (ettNumbers (ett.fieldsAt s x 9 n))
   unfolding ettNumbers ett.fieldsAt
-  ett-small x n h g = (omega arith, (omega (arith, bits-small s 72 32), part-small _ (omega arith) (omega arith)))
+  ett-small x n h g = (omega arith, (omega (arith, bits-lt s 72 32), part-small _ (omega arith) (omega arith)))
 
   ett-whole : Whole ettNumbers (etts.fieldsOf s)
   unfolding etts.fieldsOf
@@ -252,7 +252,7 @@ module _ (s : List ℕ) (bytes : Bytes s) where
   event-small : (a : ℕ) → a ≤ 4096 → Small (eventNumbers (eit.eventAt s a))
   unfolding eventNumbers eit.eventAt eit.titleAt eit.titlePart eit.descriptorsAt textAt
   event-small a h =
-      let f : (o w : ℕ) → bitsAt s (8 * a + o) w < 2 ^ w = λ o w. bits-small s (8 * a + o) w in
+      let f : (o w : ℕ) → bitsAt s (8 * a + o) w < 2 ^ w = λ o w. bits-lt s (8 * a + o) w in
       let t = title-small (a + 9 + 1) (byteAt s (a + 9)) (omega arith) (omega (arith, bytes (a + 9))) in
       let n = text-end s bytes (a + 9) (omega arith) in (
         omega (arith, f 2 14),

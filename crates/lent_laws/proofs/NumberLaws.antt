@@ -4,7 +4,7 @@ use mathlib.Core.Path.{_≡_, refl}
 use mathlib.Core.Bool.{Bool, true, false, not}
 use mathlib.Core.List.{List}
 use native.Mathlib.Omega.{arith}
-use lib.Dec.{eqb, leb, ltb}
+use lib.Dec.{eqb, leb}
 use lib.ListN.{length}
 use Rattle.bytes_at.specs.declared.Walk.{Walk}
 use Rattle.bytes_at.specs.declared.Walk.the-variants.{Bad, To}
@@ -13,11 +13,11 @@ use Rattle.kind.specs.declared.Found.{Found}
 use Rattle.kind.specs.declared.Found.the-variants.{Is, Nothing}
 use Rattle.kind.specs.declared.Kind.{Kind}
 use Rattle.kind.specs.declared.Limits.{Limits}
-use Rattle.logic.specs.Choices.{ifEq, ifLt, pick}
 use Rattle.logic.specs.Loops.{any}
 use Rattle.part.specs.declared.Part.{Part}
 use Rattle.refusal.specs.Numbers.{numberOf}
 use Rattle.refusal.specs.Outcomes.{Outcome, refused, result, orRefuse}
+use Rattle.refusal.proofs.TestLaws.{either-way}
 use Rattle.refusal.specs.declared.Refusal.{Refusal}
 use Rattle.refusal.specs.declared.Refusal.the-variants.{TooShort, OtherTable, Indicator, LengthRange, ByteCount, Checksum, ProtocolVersion, SectionNumber, Body, NotAReadPair, BrokenText, OutputShort, NoSuchEntry, ShelfBroken, OutOfRange, NotCurrent, NotWatched, AboveQuota, AlreadyWatched, NoRecordLeft, NoPlacesLeft, NotHeld, FieldTooLarge, SectionTooLong}
 use Rattle.section.specs.Headers.{checksumTest, headerBy, lengthTests, numberTests, ofKind}
@@ -92,27 +92,17 @@ number-some FieldTooLarge = omega arith
 number-some SectionTooLong = omega arith
 
 -- ---- a section's tests
-picked : {A : Type 0} (b : Bool) (p q : Outcome A) → Numbered p → Numbered q → Numbered (pick b p q)
-picked true p q h g = h
-picked false p q h g = g
-
-if-lt : {A : Type 0} (x y : ℕ) (p q : Outcome A) → Numbered p → Numbered q → Numbered (ifLt x y p q)
-unfolding ifLt
-if-lt x y p q h g = picked (ltb x y) p q h g
-
-if-eq : {A : Type 0} (x y : ℕ) (p q : Outcome A) → Numbered p → Numbered q → Numbered (ifEq x y p q)
-unfolding ifEq
-if-eq x y p q h g = picked (eqb x y) p q h g
-
 numbers-numbered : (l : Limits) (k : Kind) (s : List ℕ) → Numbered (numberTests l k s)
 unfolding numberTests
-numbers-numbered l k s = if-eq _ _ _ _ (if-lt _ _ _ _ (omega arith) (if-lt _ _ _ _ (omega arith) tt)) (number-some (l .«zero_refusal»))
+numbers-numbered l k s =
+    either-way Numbered _ _ _ (number-some (l .«zero_refusal»)) (either-way Numbered 8 _ _ (omega arith) (either-way Numbered 8 _ _ (omega arith) tt))
 
 lengths-numbered : (l : Limits) (k : Kind) (s : List ℕ) → Numbered (lengthTests l k s)
 unfolding lengthTests checksumTest
 lengths-numbered l k s =
-    if-eq _ _ _ _ (omega arith) (if-eq _ _ _ _ (omega arith) (if-lt _ _ _ _ (omega arith) (if-lt _ _ _ _ (omega arith)
-    (if-eq _ _ _ _ (if-eq _ _ _ _ (numbers-numbered l k s) (omega arith)) (omega arith)))))
+    either-way Numbered 3 _ _ (omega arith) (either-way Numbered 3 _ _ (omega arith)
+    (either-way Numbered 4 _ _ (omega arith) (either-way Numbered 4 _ _ (omega arith)
+    (either-way Numbered 5 _ _ (omega arith) (either-way Numbered 6 _ _ (omega arith) (numbers-numbered l k s))))))
 
 kind-numbered : (s : List ℕ) (f : Found) → Numbered (ofKind s f)
 unfolding ofKind
@@ -130,7 +120,7 @@ with-numbered (result x) s h = body-numbered (bodyWalk (x .kind) s) x
 
 judged-numbered : (b : List ℕ) → Numbered (judged b)
 unfolding judged sectionBy verdictBy headerBy
-judged-numbered b = with-numbered (headerBy kindOf b) b (if-lt _ _ _ _ (omega arith) (kind-numbered b _))
+judged-numbered b = with-numbered (headerBy kindOf b) b (either-way Numbered 1 _ _ (omega arith) (kind-numbered b _))
 
 owner-picks : (a b c : Bool) (w : ℕ) → Numbered (orRefuse {A = ℕ} 16 (not a) (orRefuse 17 b (orRefuse 18 c (result w))))
 unfolding orRefuse

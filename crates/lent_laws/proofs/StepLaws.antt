@@ -20,6 +20,7 @@ use Rattle.shelf.specs.Views.{Call, asks, closes, delivers, fetches, keyIn, ope
 use Rattle.shelf_laws.proofs.CloseLaws.{closing-passed}
 use Rattle.shelf_laws.proofs.DeliverLaws.{delivery-passed}
 use Rattle.shelf_laws.proofs.OpenLaws.{opening-passed}
+use Rattle.shelf_laws.proofs.StepLaws.{done-tt}
 use Rattle.shelf_laws.proofs.StayLaws.{done-at, done-is, questions-stay, refused-stays}
 use Rattle.refusal.specs.Outputs.{numberIn}
 use Rattle.lent_memory.specs.Replies.{partNumbers, replyAfter, callFits, statusNumbers}
@@ -43,10 +44,6 @@ kept x t area e =
 kept-means : (x : LentState) (t : Shelf) (area : List ℕ) → t ≡ meaning x → meaning (leftBy x t area) ≡ t
 kept-means x t area e = ap meaning (kept x t area e) ∙ sym e
 
-is-unit : (o : Outcome (Unit {0})) → isResult o ≡ true → o ≡ result tt
-is-unit (refused k) e = true-false false e refl
-is-unit (result u) e = refl
-
 module _ (x : LentState) (u : Lent) where
   abbrev z : State
   z = stateOf x
@@ -60,10 +57,10 @@ module _ (x : LentState) (u : Lent) where
   done-means : (c : Call) (a : List ℕ) → accepted (step z (at c) .answer) ≡ true → meaning (leftBy x (step z (at c) .next .shelf) a) ≡ step z (at c) .next .shelf
   unfolding step stepOn delivered
   done-means (opens o) a e =
-      let f = opening-passed (meaning x) (length area) (o .key) (o .quota) (is-unit (opened (meaning x) (length area) (o .key) (o .quota) .outcome) e) in
+      let f = opening-passed (meaning x) (length area) (o .key) (o .quota) (done-tt (opened (meaning x) (length area) (o .key) (o .quota) .outcome) e) in
       trip x _ (freeRecord (meaning x)) (subst (λ (r : After (Unit {0})). Made x (r .shelf) (freeRecord (meaning x))) (sym (f .is)) (opened-made x (length area) (o .key) (o .quota) f)) a
   done-means (closes c) a e =
-      let f = closing-passed (meaning x) (length area) (c .key) (is-unit (closed (meaning x) (length area) (c .key) .outcome) e) in
+      let f = closing-passed (meaning x) (length area) (c .key) (done-tt (closed (meaning x) (length area) (c .key) .outcome) e) in
       trip x _ (watchOf (meaning x) (c .key)) (subst (λ (r : After (Unit {0})). Made x (r .shelf) (watchOf (meaning x) (c .key))) (sym (f .is)) (closed-made x (length area) (c .key) f)) a
   done-means (asks q) a e = kept-means x _ a (ap (λ (y : State). y .shelf) (questions-stay z (at (asks q)) refl))
   done-means (fetches g) a e = kept-means x _ a (ap (λ (y : State). y .shelf) (questions-stay z (at (fetches g)) refl))

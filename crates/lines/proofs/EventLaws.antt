@@ -16,7 +16,7 @@ use Rattle.format.specs.Lawful.{Bytes}
 use Rattle.format.specs.Formats.{walks}
 use Rattle.strings.specs.Places.{textAt}
 use Rattle.eit.specs.declared.event.Title.the-variants.{Text}
-use Rattle.eit.specs.Format.{event}
+use Rattle.eit.specs.Walked.{event}
 use Rattle.eit.specs.Titles.{titleOf}
 use Rattle.eit.specs.Fields.{countAt, firstAt, titlePart, titleAt, eventAt, eventEnd}
 use Rattle.eit.specs.Inner.{Events}

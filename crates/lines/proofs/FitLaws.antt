@@ -8,9 +8,10 @@ use native.Mathlib.Omega.{arith}
 use lib.ListN.{length, drop, length-append, length-take}
 use Rattle.bytes_at.specs.declared.Walk.{Walk}
 use Rattle.bytes_at.specs.declared.Walk.the-variants.{To, Bad}
-use Rattle.bytes_at.specs.Fields.{byteAt, wordAt}
+use Rattle.bytes_at.specs.Fields.{byteAt}
 use Rattle.refusal.specs.Numbers.{numberOf}
 use Rattle.refusal.specs.Outcomes.{Outcome, refused, result}
+use Rattle.refusal.proofs.TestLaws.{either-way}
 use Rattle.kind.specs.declared.Kind.{Kind}
 use Rattle.kind.specs.declared.Kind.the-variants.{Mgt, Tvct, Rrt, Eit, Ett}
 use Rattle.kind.specs.declared.Found.{Found}
@@ -35,7 +36,6 @@ use Rattle.shown.specs.Titles.{titleShown}
 use Rattle.lines.specs.Lines.{kindWord, keyShown, editionShown, timesShown, eventLine, eventLines, eventsShown}
 use Rattle.lines.specs.Lines.{restShown, refusalShown, outcomeShown, sectionShown}
 use Rattle.lines.specs.Records.{lastLine, recordLines, badLines}
-use Rattle.shown.proofs.BothLaws.{lt-either, eq-either}
 use Rattle.shown.proofs.FewLaws.{number-few, field-few, title-few}
 use Rattle.lines.proofs.EventLaws.{section-events}
 
@@ -94,23 +94,19 @@ zero-few Rrt = omega arith
 zero-few Eit = omega arith
 zero-few Ett = omega arith
 
-word-few : (s : List ℕ) → Bytes s → (i : ℕ) → wordAt s i < 65536
-word-few s z i = omega (arith, z i, z (i + 1))
-
 module _ (s : List ℕ) (z : Bytes s) where
   numbers-told : (k : Kind) → Told (numberTests (limitsOf k) k s)
   unfolding numberTests
   numbers-told k =
-      eq-either Told _ _
-      (lt-either Told _ _ (omega arith) (lt-either Told _ _ (omega arith) (word-few s z 3, omega arith, z 6, z 7) _ _) _ _)
-      (zero-few k) _ _
+      either-way Told _ _ _ (zero-few k)
+      (either-way Told 8 _ _ (omega arith) (either-way Told 8 _ _ (omega arith) (omega (arith, z 3, z 4), omega arith, z 6, z 7)))
 
   lengths-told : (k : Kind) → Told (lengthTests (limitsOf k) k s)
   unfolding lengthTests checksumTest
   lengths-told k =
-      eq-either Told _ _ (omega arith) (eq-either Told _ _ (omega arith)
-      (lt-either Told _ _ (omega arith) (lt-either Told _ _ (omega arith)
-      (eq-either Told _ _ (eq-either Told _ _ (numbers-told k) (omega arith) _ _) (omega arith) _ _) _ _) _ _) _ _) _ _
+      either-way Told 3 _ _ (omega arith) (either-way Told 3 _ _ (omega arith)
+      (either-way Told 4 _ _ (omega arith) (either-way Told 4 _ _ (omega arith)
+      (either-way Told 5 _ _ (omega arith) (either-way Told 6 _ _ (omega arith) (numbers-told k))))))
 
   kind-told : (f : Found) → Told (ofKind s f)
   unfolding ofKind
@@ -119,7 +115,7 @@ module _ (s : List ℕ) (z : Bytes s) where
 
   header-told : Told (headerBy kindOf s)
   unfolding headerBy
-  header-told = lt-either Told _ _ (omega arith) (kind-told (kindOf (byteAt s 0))) _ _
+  header-told = either-way Told 1 _ _ (omega arith) (kind-told (kindOf (byteAt s 0)))
 
   body-told : (w : Walk) (h : Header) → Told (result h) → Told (plainly (byWalk w h))
   body-told (To e) h t = t
@@ -212,10 +208,10 @@ module _ (s : List ℕ) (z : Bytes s) where
       )
 
   section-few : (pid : ℕ) → pid < 65536 → length (sectionShown pid s) ≤ 144 + 48 * length s
-  unfolding sectionShown
+  unfolding sectionShown outcomeShown
   section-few pid p =
-      lt-either (λ (l : List ℕ). length l ≤ 144 + 48 * length s) (refusalShown 15) (outcomeShown pid s (sectionBy kindOf s))
-      (omega (arith, refusal-few 15 (omega arith))) (outcome-few pid p (sectionBy kindOf s) refl (section-told s z)) 8191 pid
+      either-way (λ o. length (outcomeShown pid s o) ≤ 144 + 48 * length s) 15 _ (sectionBy kindOf s)
+      (omega (arith, refusal-few 15 (omega arith))) (outcome-few pid p (sectionBy kindOf s) refl (section-told s z))
 
 -- ---- a record
 pub last-few : (n : ℕ) → n < 2 ^ 64 → length (lastLine n) ≤ 25
@@ -237,5 +233,5 @@ record-few n r z h =
       length-append (decimal n) (sectionShown (pidIn r) s),
       number-few n h,
       length-take size (drop 4 r),
-      section-few s (part-bytes r size 4 z) (pidIn r) (word-few r z 2),
+      section-few s (part-bytes r size 4 z) (pidIn r) (omega (arith, z 2, z 3)),
     )

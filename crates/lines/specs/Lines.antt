@@ -1,8 +1,8 @@
 -- SCOPE 8.2: the lines of a section.
 use Prim.Native.Nat.{ℕ, zero, suc}
 use mathlib.Core.List.{List, [], _++_}
-use Rattle.logic.specs.Choices.{ifLt}
-use Rattle.refusal.specs.Outcomes.{Outcome, refused, result}
+use lib.Dec.{leb}
+use Rattle.refusal.specs.Outcomes.{Outcome, refused, result, orRefuse}
 use Rattle.kind.specs.declared.Kind.{Kind}
 use Rattle.kind.specs.declared.Kind.the-variants.{Mgt, Tvct, Rrt, Eit, Ett}
 use Rattle.kind.specs.Kinds.{limitsOf, kindOf}
@@ -67,4 +67,4 @@ outcomeShown pid s (result h) = keyShown pid h ++ (editionShown h ++ restShown s
 
 -- the lines of a section: 15 comes before 1 to 9
 unfoldable pub sectionShown : ℕ → List ℕ → List ℕ
-sectionShown pid s = ifLt 8191 pid (refusalShown 15) (outcomeShown pid s (sectionBy kindOf s))
+sectionShown pid s = outcomeShown pid s (orRefuse 15 (leb pid 8191) (sectionBy kindOf s))

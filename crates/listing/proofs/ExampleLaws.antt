@@ -3,7 +3,7 @@ use mathlib.Core.Path.{refl}
 use Rattle.checksum.specs.Register.{registerFrom, bitsIn, bitIn, poly}
 use Rattle.logic.specs.Choices.{ifLt, ifEq}
 use Rattle.kind.specs.Kinds.{kindOf}
-use Rattle.refusal.specs.Outcomes.{after}
+use Rattle.refusal.specs.Outcomes.{after, orRefuse}
 use Rattle.bytes_at.specs.Walks.{skipTo, bitsTo, fieldsTo, then, many, ends, standing}
 use Rattle.bytes_at.specs.Bits.{bitAt, bitsAt}
 use Rattle.format.specs.Lawful.{unto}
@@ -13,7 +13,7 @@ use Rattle.descriptor.specs.Descriptors.{content, descriptor, descriptors, list
 use Rattle.descriptor.specs.Places.{listAt, listEnd}
 use Rattle.text.specs.Segments.{wayOf, pairs, utf16Units, unitsBy, segmentUnits}
 use Rattle.text.specs.Strings.{stringCount, stringAt, joined, joinedUnits, stringUnits}
-use Rattle.eit.specs.Format.{event, events, eit}
+use Rattle.eit.specs.Walked.{event, events, eit}
 use Rattle.eit.specs.Fields.{titlePart, titleAt, descriptorsAt, eventAt, eventEnd}
 use Rattle.eit.specs.Titles.{titleOf}
 use Rattle.section.specs.Bodies.{bodyOf}
@@ -28,5 +28,5 @@ use Rattle.listing.specs.Listing.{stopLines, linesFrom, listing}
 use Rattle.listing.specs.Examples.{Examples}
 
 pub examples : Examples
-unfolding headerBy ofKind lengthTests checksumTest numberTests ifLt ifEq kindOf sectionBy verdictBy withBody bodyTest bodyOf then many ends skipTo bitsTo fieldsTo unto segment string structure text sizedText content descriptor descriptors list12 eit events event after bitAt bitsAt textAt textEnd listAt listEnd titlePart titleAt titleOf descriptorsAt eventAt eventEnd wayOf pairs utf16Units unitsBy segmentUnits standing stringCount stringAt joined joinedUnits stringUnits whole decimalBy decimal field plain shown allShown textShown titleShown kindWord keyShown editionShown timesShown eventLine eventLines eventsShown restShown outcomeShown sectionShown lastLine recordLines stopLines linesFrom listing registerFrom bitsIn bitIn poly
+unfolding headerBy ofKind lengthTests checksumTest numberTests ifLt ifEq kindOf sectionBy verdictBy withBody bodyTest bodyOf then many ends skipTo bitsTo fieldsTo unto segment string structure text sizedText content descriptor descriptors list12 eit events event after bitAt bitsAt textAt textEnd listAt listEnd titlePart titleAt titleOf descriptorsAt eventAt eventEnd wayOf pairs utf16Units unitsBy segmentUnits standing stringCount stringAt joined joinedUnits stringUnits whole decimalBy decimal field plain shown allShown textShown titleShown kindWord keyShown editionShown timesShown eventLine eventLines eventsShown restShown outcomeShown sectionShown lastLine recordLines stopLines linesFrom listing registerFrom bitsIn bitIn poly orRefuse
 examples = record { both = refl; nothing = refl }

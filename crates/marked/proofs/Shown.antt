@@ -12,14 +12,14 @@ use Rattle.strings.specs.Places.{textAt, textEnd}
 use Rattle.strings.specs.Strings.{segment, string, structure, text, sizedText}
 use Rattle.descriptor.specs.Descriptors.{content, descriptor, descriptors, list12, list10}
 use Rattle.descriptor.specs.Places.{listAt}
-use Rattle.mgt.specs.Format.{defined, tables, mgt}
-use Rattle.channel.specs.Format.{channel}
-use Rattle.tvct.specs.Format.{channels, tvct}
-use Rattle.rrt.specs.Format.{value, dimension, dimensions, dimensionsAndList, rrt}
-use Rattle.eit.specs.Format.{event, events, eit}
+use Rattle.mgt.specs.Walked.{defined, tables, mgt}
+use Rattle.channel.specs.Walked.{channel}
+use Rattle.tvct.specs.Walked.{channels, tvct}
+use Rattle.rrt.specs.Walked.{value, dimension, dimensions, dimensionsAndList, rrt}
+use Rattle.eit.specs.Walked.{event, events, eit}
 use Rattle.eit.specs.Fields.{titlePart, titleAt, descriptorsAt, eventAt}
 use Rattle.eit.specs.Titles.{titleOf}
-use Rattle.ett.specs.Format.{ett}
+use Rattle.ett.specs.Walked.{ett}
 use Rattle.section.specs.Bodies.{bodyOf}
 use Rattle.entry.specs.Entries.{formatOf, entryCount, firstEntry, entryWalk, spotIn, spotOf}
 use Rattle.section.specs.Headers.{headerBy, ofKind, lengthTests, checksumTest, numberTests}
@@ -46,39 +46,39 @@ use Rattle.marked.specs.Sections.{eit11, eit4093, tvct1021, mgt14, rrt18
 use Rattle.marked.specs.Marked.{P1, P2, P3, P4, P5, P6, P7, P8, P9, P10, P11, P12, P13, Says, marked, AllHold}
 
 p1 : Says P1
-unfolding headerBy ofKind lengthTests checksumTest numberTests ifLt ifEq kindOf sealed fourBytes sectionBy verdictBy withBody bodyTest bodyOf then many ends skipTo bitsTo fieldsTo unto segment string structure text sizedText content descriptor descriptors list12 eit events event onlyOf after fieldsOf
+unfolding headerBy ofKind lengthTests checksumTest numberTests ifLt ifEq kindOf sealed fourBytes sectionBy verdictBy withBody bodyTest bodyOf then many ends skipTo bitsTo fieldsTo unto segment string structure text sizedText content descriptor descriptors list12 eit events event onlyOf after fieldsOf orRefuse
 p1 = (rw (sealed-sound (eit11 0 0)), (refl, (rw (sealed-sound (eit11 0 0)), refl)))
 
 p2 : Says P2
-unfolding headerBy ofKind lengthTests checksumTest numberTests ifLt ifEq kindOf sealed fourBytes sectionBy verdictBy withBody bodyTest bodyOf then many ends skipTo bitsTo fieldsTo unto segment string structure text sizedText content descriptor descriptors list12 eit events event
+unfolding headerBy ofKind lengthTests checksumTest numberTests ifLt ifEq kindOf sealed fourBytes sectionBy verdictBy withBody bodyTest bodyOf then many ends skipTo bitsTo fieldsTo unto segment string structure text sizedText content descriptor descriptors list12 eit events event orRefuse
 p2 = (rw (sealed-sound eit4093), refl)
 
 p3 : Says P3
-unfolding headerBy ofKind lengthTests checksumTest numberTests ifLt ifEq kindOf sealed fourBytes sectionBy verdictBy withBody bodyTest bodyOf then many ends skipTo bitsTo fieldsTo unto segment string structure text sizedText content descriptor descriptors list10 tvct channels channel
+unfolding headerBy ofKind lengthTests checksumTest numberTests ifLt ifEq kindOf sealed fourBytes sectionBy verdictBy withBody bodyTest bodyOf then many ends skipTo bitsTo fieldsTo unto segment string structure text sizedText content descriptor descriptors list10 tvct channels channel orRefuse
 p3 = (rw (sealed-sound tvct1021), refl)
 
 p4 : Says P4
-unfolding headerBy ofKind lengthTests checksumTest numberTests ifLt ifEq kindOf sealed fourBytes sectionBy verdictBy withBody bodyTest bodyOf then many ends skipTo bitsTo fieldsTo unto segment string structure text sizedText content descriptor descriptors list12 mgt tables defined
+unfolding headerBy ofKind lengthTests checksumTest numberTests ifLt ifEq kindOf sealed fourBytes sectionBy verdictBy withBody bodyTest bodyOf then many ends skipTo bitsTo fieldsTo unto segment string structure text sizedText content descriptor descriptors list12 mgt tables defined orRefuse
 p4 = (rw (sealed-sound mgt14), refl)
 
 p5 : Says P5
-unfolding headerBy ofKind lengthTests checksumTest numberTests ifLt ifEq kindOf sealed fourBytes sectionBy verdictBy withBody bodyTest bodyOf then many ends skipTo bitsTo fieldsTo unto segment string structure text sizedText content descriptor descriptors list10 rrt dimensionsAndList dimensions dimension value
+unfolding headerBy ofKind lengthTests checksumTest numberTests ifLt ifEq kindOf sealed fourBytes sectionBy verdictBy withBody bodyTest bodyOf then many ends skipTo bitsTo fieldsTo unto segment string structure text sizedText content descriptor descriptors list10 rrt dimensionsAndList dimensions dimension value orRefuse
 p5 = (rw (sealed-sound rrt18), refl)
 
 p6 : Says P6
-unfolding headerBy ofKind lengthTests checksumTest numberTests ifLt ifEq kindOf sealed fourBytes sectionBy verdictBy withBody bodyTest bodyOf then many ends skipTo bitsTo fieldsTo unto segment string structure text sizedText content descriptor descriptors ett
+unfolding headerBy ofKind lengthTests checksumTest numberTests ifLt ifEq kindOf sealed fourBytes sectionBy verdictBy withBody bodyTest bodyOf then many ends skipTo bitsTo fieldsTo unto segment string structure text sizedText content descriptor descriptors ett orRefuse
 p6 = (rw (sealed-sound ett15), refl)
 
 p7 : Says P7
-unfolding headerBy ofKind lengthTests checksumTest numberTests ifLt ifEq kindOf sealed fourBytes sectionBy verdictBy withBody bodyTest bodyOf then many ends skipTo bitsTo fieldsTo unto segment string structure text sizedText content descriptor descriptors list12 eit events event
+unfolding headerBy ofKind lengthTests checksumTest numberTests ifLt ifEq kindOf sealed fourBytes sectionBy verdictBy withBody bodyTest bodyOf then many ends skipTo bitsTo fieldsTo unto segment string structure text sizedText content descriptor descriptors list12 eit events event orRefuse
 p7 = (rw (sealed-sound (eit11 3 3)), rw (sealed-sound (eit11 4 3)))
 
 p8 : Says P8
-unfolding headerBy ofKind lengthTests checksumTest numberTests ifLt ifEq kindOf sealed fourBytes sectionBy verdictBy withBody bodyTest bodyOf then many ends skipTo bitsTo fieldsTo unto segment string structure text sizedText content descriptor descriptors list12 eit events event onlyOf after formatOf entryCount firstEntry entryWalk standing spotIn spotOf entryOf bitAt bitsAt textAt textEnd listAt titlePart titleAt titleOf descriptorsAt eventAt
+unfolding headerBy ofKind lengthTests checksumTest numberTests ifLt ifEq kindOf sealed fourBytes sectionBy verdictBy withBody bodyTest bodyOf then many ends skipTo bitsTo fieldsTo unto segment string structure text sizedText content descriptor descriptors list12 eit events event onlyOf after formatOf entryCount firstEntry entryWalk standing spotIn spotOf entryOf bitAt bitsAt textAt textEnd listAt titlePart titleAt titleOf descriptorsAt eventAt orRefuse
 p8 = (rw (sealed-sound noTitle), rw (sealed-sound zeroTitle))
 
 p9 : Says P9
-unfolding headerBy ofKind lengthTests checksumTest numberTests ifLt ifEq kindOf sealed fourBytes sectionBy verdictBy withBody bodyTest bodyOf then many ends skipTo bitsTo fieldsTo unto segment string structure text sizedText content descriptor descriptors list12 eit events event onlyOf after formatOf entryCount firstEntry entryWalk spotIn spotOf entryOf bitAt bitsAt textAt textEnd listAt titlePart titleAt titleOf descriptorsAt eventAt titleIn fieldOf textUnits wayOf pairs unitsBy segmentUnits standing stringCount stringAt joined joinedUnits stringUnits
+unfolding headerBy ofKind lengthTests checksumTest numberTests ifLt ifEq kindOf sealed fourBytes sectionBy verdictBy withBody bodyTest bodyOf then many ends skipTo bitsTo fieldsTo unto segment string structure text sizedText content descriptor descriptors list12 eit events event onlyOf after formatOf entryCount firstEntry entryWalk spotIn spotOf entryOf bitAt bitsAt textAt textEnd listAt titlePart titleAt titleOf descriptorsAt eventAt titleIn fieldOf textUnits wayOf pairs unitsBy segmentUnits standing stringCount stringAt joined joinedUnits stringUnits orRefuse
 p9 = (refl, (refl, (refl, (rw (sealed-sound teaSection), (rw (sealed-sound teaSection), rw (sealed-sound teaSection))))))
 
 p10 : Says P10
@@ -90,7 +90,7 @@ unfolding ifLt ifEq kindOf _&_ _⇒_ all any sum first each sameKey isOf holdsFo
 p11 = (refl, refl)
 
 p12 : Says P12
-unfolding ifLt ifEq skipTo bitsTo fieldsTo then many ends after segment string structure text wayOf pairs utf16Units unitsBy segmentUnits standing stringCount stringAt joined joinedUnits stringUnits ofField fieldUnits
+unfolding ifLt ifEq skipTo bitsTo fieldsTo then many ends after segment string structure text wayOf pairs utf16Units unitsBy segmentUnits standing stringCount stringAt joined joinedUnits stringUnits ofField fieldUnits orRefuse
 p12 = (refl, refl)
 
 p13 : Says P13

@@ -10,7 +10,7 @@ use Rattle.bytes_at.proofs.WalkLaws.{then-inv, ended}
 use Rattle.format.specs.Formats.{walks, walksAll}
 use Rattle.format.proofs.FieldLaws.{fields-end}
 use Rattle.descriptor.specs.Descriptors.{list12, noTag}
-use Rattle.mgt.specs.Format.{defined, tables, mgt}
+use Rattle.mgt.specs.Walked.{defined, tables, mgt}
 use Rattle.mgt.specs.Fields.{countAt, firstAt}
 
 pub body-tables : (s : List ℕ) (end at e : ℕ) → walksAll mgt s end at ≡ To e

@@ -15,7 +15,7 @@ use Rattle.descriptor.specs.Places.{listEnd}
 use Rattle.descriptor.proofs.ListLaws.{ListPassed, list12-passed}
 use Rattle.row.specs.Rows.{partRow}
 use Rattle.row.proofs.RowLaws.{sets-append}
-use Rattle.mgt.specs.Format.{defined}
+use Rattle.mgt.specs.Walked.{defined}
 use Rattle.mgt.specs.Fields.{descriptorsAt, definedEnd, numbersRow, definedRow}
 
 module _ (s : List ℕ) (end a b : ℕ) (w : walks defined s end a ≡ To b) where

@@ -9,14 +9,15 @@ use Rattle.format.specs.Laws.OfBytes.{lies-at, lies-split}
 use Rattle.format.specs.Laws.OfValues.{bytes-length}
 use Rattle.format.specs.Formats.{walksAll}
 use Rattle.format.specs.Values.{number, bytesOf, behind}
-use Rattle.format.specs.Named.{vals-there}
+use Rattle.format.specs.Laws.OfNamed.{vals-there}
 use Rattle.format.specs.Told.{sized12, counted16}
 use Rattle.format.proofs.SizedLaws.{counted16-there}
 use Rattle.format.proofs.ListedLaws.{Stand}
 use Rattle.descriptor.specs.Descriptors.{descriptors, list12, noTag}
 use Rattle.descriptor.proofs.ListLaws.{list12-there}
 use Rattle.row.specs.Rows.{partRow}
-use Rattle.mgt.specs.Format.{definedHead, headOf, headIn, DefinedFields, definedFormat, defined, tables, MgtFields, mgtFormat, mgt}
+use Rattle.mgt.specs.Format.{definedHead, headOf, headIn, DefinedFields, definedFormat, MgtFields, mgtFormat}
+use Rattle.mgt.specs.Walked.{defined, tables, mgt}
 use Rattle.mgt.specs.Fields.{countAt, firstAt, fieldsAt, headAt, descriptorsAt, definedEnd, definedAt, numbersRow, definedRow}
 use Rattle.mgt.specs.Values.{descriptorsPlace, definedFor, rowFor, tablesEnd, fieldsFor}
 use Rattle.mgt.proofs.DefinedLaws.{defined-ends}

@@ -6,7 +6,7 @@ use Rattle.format.specs.Formats.{One, Format, Filling, seq, exact, under, under
 use Rattle.format.specs.Values.{Field, bits, reserved, Vals}
 use Rattle.format.specs.Named.{named}
 use Rattle.format.specs.Told.{counted16, sized12}
-use Rattle.descriptor.specs.Descriptors.{descriptors, list12, noTag}
+use Rattle.descriptor.specs.Descriptors.{descriptors, noTag}
 
 -- table_type 16, r 3, PID 13, r 3, version 5, number_bytes 32
 abbrev pub definedHead : List Field
@@ -39,14 +39,6 @@ definedFormat =
     (λ x. record { head = headIn (x .0); r = x .1 .0 .0; descs = x .1 .1 })
     (λ x. refl) (λ y. refl)
 
--- a table that an MGT defines: the same, shut; what follows with it is what the code is held to (law `same-walk`)
-unfoldable pub defined : Format One
-defined = definedFormat
-
--- tables_defined 16, and the tables
-unfoldable pub tables : Format One
-tables = counted16 defined
-
 -- the tables; r 4, descriptors_length 12, descriptors
 pub record MgtFields : Type 0 where
   pub tables : List DefinedFields
@@ -59,7 +51,3 @@ mgtFormat =
     (λ b. ((record {}, b .tables), ((b .r, record {}), b .descs)))
     (λ x. record { tables = x .0 .1; r = x .1 .0 .0; descs = x .1 .1 })
     (λ x. refl) (λ y. refl)
-
--- the same walk, shut, which the code is held to (law `same-walk`)
-unfoldable pub mgt : Filling One
-mgt = exact (seq tables (list12 noTag))

@@ -9,7 +9,7 @@ use descriptor::whole_list12;
 ghost use mathlib.Core.Path.{_≡_};
 ghost use Rattle.bytes_at.specs.Walks.{many};
 ghost use Rattle.format.specs.Formats.{walks, walksAll};
-ghost use Rattle.mgt.specs.Format.{defined, tables, mgt};
+ghost use Rattle.mgt.specs.Walked.{defined, tables, mgt};
 
 fn one_defined(s: &[u8], end: usize, at: usize) -> Walk
     ensures { λ r. ⌜ r ≡ walks defined (now (s .entry)) end at ⌝ }

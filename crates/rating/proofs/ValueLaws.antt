@@ -11,8 +11,9 @@ use Rattle.format.specs.Formats.{last, lastButOne, both, through, filledBy, tim
 use Rattle.format.specs.Laws.OfBytes.{lies-at, lies-split}
 use Rattle.format.specs.Laws.OfValues.{bytes-length}
 use Rattle.format.specs.Values.{bits, reserved}
-use Rattle.format.specs.Named.{vals-there}
-use Rattle.format.specs.Told.{headBytes, told-there, last-tells, low8-tells}
+use Rattle.format.specs.Laws.OfNamed.{vals-there}
+use Rattle.format.specs.Heads.{headBytes}
+use Rattle.format.specs.Laws.OfTold.{told-there, last-tells, low8-tells}
 use Rattle.format.proofs.SizedLaws.{sized8-there}
 use Rattle.strings.specs.Strings.{text, sizedText}
 use Rattle.descriptor.specs.Descriptors.{dimension, rated, region, advisory, content, descriptor, tag-tells}
@@ -59,7 +60,7 @@ module _ (s : List ℕ) (z : Bytes s) (p : ℕ) (g : region .Val) (o : region .O
       × Lies (text .enc (g .text)) s (p + 2 + 2 * length (g .ratings) + 1))
   unfolding region rated dimension sizedText
   text-values =
-      let h = headBytes (bits 8 ∷ []) 8 2 refl (g .region, record {}) (length (g .ratings)) in
+      let h = headBytes (bits 8 ∷ []) 8 2 (g .region, record {}) (length (g .ratings)) in
       let b : length h ≡ 2 = bytes-length 2 _ in
       let i = lies-split (rated .enc ((g .region, record {}), g .ratings)) (sizedText .enc (record {}, g .text)) s p l in
       let n : p + length (rated .enc ((g .region, record {}), g .ratings)) ≡ p + 2 + 2 * length (g .ratings) =
@@ -98,7 +99,7 @@ module _ (judged : ℕ) (s : List ℕ) (z : Bytes s) (a : ℕ) (d : descriptor j
 pub advisory-length : (v : advisory .Val) → unfold advisory region in (length (advisory .enc v) ≡ 1 + length (encs (region .enc) (v .regions)))
 unfolding advisory region
 advisory-length v =
-    let h = headBytes (reserved 2 ∷ []) 6 1 refl (v .r, record {}) (length (v .regions)) in
+    let h = headBytes (reserved 2 ∷ []) 6 1 (v .r, record {}) (length (v .regions)) in
     let b : length h ≡ 1 = bytes-length 1 _ in
     omega (arith, length-append h (encs (region .enc) (v .regions)))
 

@@ -16,7 +16,7 @@ use Rattle.part.specs.Parts.{endOf, bytesIn}
 use Rattle.rating.specs.Ratings.{Descriptor, TextPart}
 use Rattle.rating.proofs.DescriptorLaws.{descriptor-within}
 use Rattle.rating.proofs.AnswerLaws.{text-within}
-use Rattle.eit.specs.Format.{event}
+use Rattle.eit.specs.Walked.{event}
 use Rattle.eit.specs.Fields.{titlePart, descriptorsAt}
 use Rattle.eit.specs.Questions.{eventDescriptor, advisoryTextAt}
 use Rattle.eit.proofs.EventLaws.{title-sound, descriptors-sound}

@@ -7,11 +7,11 @@ use native.Mathlib.Numerals.{sub-one}
 use native.Mathlib.Omega.{arith}
 use lib.ListN.{length}
 use lib.Seq.{sets, length-sets}
-use Rattle.logic.proofs.ChoiceLaws.{lt-yes, lt-no}
 use Rattle.bytes_at.specs.declared.Walk.the-variants.{To}
 use Rattle.bytes_at.specs.Walks.{many}
 use Rattle.bytes_at.proofs.WalkLaws.{many-inv, reached}
 use Rattle.refusal.specs.Outcomes.{refused, result}
+use Rattle.refusal.proofs.TestLaws.{lets-le, stops-le}
 use Rattle.kind.specs.Kinds.{limitsOf, onlyOf}
 use Rattle.format.specs.Formats.{walks}
 use Rattle.format.specs.Lawful.{Bytes}
@@ -131,7 +131,7 @@ module _ (r : Row) (s l : List ℕ) (w n : ℕ) (wide : w ≡ rowWidth r) (count
   unfolding rowsIn roomForRows withRows
   no-room h =
       let k = rw (wide, counted) at h in
-      let e = lt-yes (length l) (rowWidth r * entryCount (entryFor r) s) (refused 12) (result (entryCount (entryFor r) s)) {r = refused 12} k refl in
+      let e = stops-le 12 (rowWidth r * entryCount (entryFor r) s) (length l) (result (entryCount (entryFor r) s)) {r = refused 12} k refl in
       (e, rw (← e))
 
   pub enough-room : (m : List ℕ) (a : ℕ) → w * n ≤ length l → a ≡ firstEntry (entryFor r) s → m ≡ sets l 0 (rowsFrom r s n a)
@@ -139,7 +139,7 @@ module _ (r : Row) (s l : List ℕ) (w n : ℕ) (wide : w ≡ rowWidth r) (count
   unfolding rowsIn roomForRows withRows
   enough-room m a h first put =
       let k = rw (wide, counted) at h in
-      let e = lt-no (length l) (rowWidth r * entryCount (entryFor r) s) (refused 12) (result (entryCount (entryFor r) s)) {r = result n} k (ap result counted) in
+      let e = lets-le 12 (rowWidth r * entryCount (entryFor r) s) (length l) (result (entryCount (entryFor r) s)) {r = result n} k (ap result counted) in
       (e, rw (← e, ← first) put)
 
 -- ---- what a section that was judged has, before its rows are asked for

@@ -6,8 +6,8 @@ use native.Mathlib.Numerals.{sub-one}
 use native.Mathlib.Omega.{arith}
 use lib.ListN.{length, length-append}
 use lib.Seq.{sets, length-sets}
-use Rattle.logic.proofs.ChoiceLaws.{lt-yes, lt-no}
 use Rattle.refusal.specs.Outcomes.{refused, result}
+use Rattle.refusal.proofs.TestLaws.{lets-le, stops-le}
 use Rattle.format.specs.Lawful.{Bytes}
 use Rattle.strings.specs.Places.{textEnd}
 use Rattle.row.proofs.RowLaws.{sets-append}
@@ -150,7 +150,7 @@ module _ (s l : List ℕ) (n : ℕ) (counted : n ≡ valueCount s (entryCount en
   values-short h =
       let k = rw counted at h in
       let c = valueCount s (entryCount entries.Dimension s) (firstEntry entries.Dimension s) in
-      let e = lt-yes (length l) (6 * c) (refused 12) (result c) {r = refused 12} k refl in
+      let e = stops-le 12 (6 * c) (length l) (result c) {r = refused 12} k refl in
       (e, rw (← e))
 
   pub values-fit : (m : List ℕ) → 6 * n ≤ length l → m ≡ sets l 0 (dimensionRows s 0 (entryCount entries.Dimension s) (firstEntry entries.Dimension s))
@@ -159,5 +159,5 @@ module _ (s l : List ℕ) (n : ℕ) (counted : n ≡ valueCount s (entryCount en
   values-fit m h put =
       let k = rw counted at h in
       let c = valueCount s (entryCount entries.Dimension s) (firstEntry entries.Dimension s) in
-      let e = lt-no (length l) (6 * c) (refused 12) (result c) {r = result n} k (ap result counted) in
+      let e = lets-le 12 (6 * c) (length l) (result c) {r = result n} k (ap result counted) in
       (e, rw (← e) put)

@@ -2,9 +2,9 @@
 use Prim.Native.Nat.{ℕ, zero, suc, _*_}
 use mathlib.Core.List.{List, [], _++_}
 use lib.Seq.{sets}
-use Rattle.logic.specs.Choices.{ifLt}
+use lib.Dec.{leb}
 use Rattle.refusal.specs.Numbers.{numberOf}
-use Rattle.refusal.specs.Outcomes.{Outcome, refused, result, after}
+use Rattle.refusal.specs.Outcomes.{Outcome, refused, result, after, orRefuse}
 use Rattle.kind.specs.Kinds.{onlyOf}
 use Rattle.mgt.specs.Fields.{definedRow, definedEnd}
 use Rattle.channel.specs.Fields.{channelRow, channelEnd}
@@ -53,7 +53,7 @@ rowsFrom r s (suc n) a = rowAt r s a ++ rowsFrom r s n (nextAt r s a)
 
 -- 12 where n rows of w numbers have no room
 unfoldable pub roomForRows : ℕ → ℕ → ℕ → Outcome ℕ
-roomForRows w n room = ifLt room (w * n) (refused 12) (result n)
+roomForRows w n room = orRefuse 12 (leb (w * n) room) (result n)
 
 -- how many rows a section has, or 12 where a list of this length has no room for them
 unfoldable pub rowsIn : Row → List ℕ → ℕ → Outcome ℕ

@@ -9,7 +9,7 @@ use Rattle.bytes_at.specs.declared.Walk.the-variants.{To}
 use Rattle.bytes_at.specs.Walks.{many}
 use Rattle.bytes_at.proofs.WalkLaws.{many-inv}
 use Rattle.format.specs.Formats.{walks}
-use Rattle.rrt.specs.Format.{value}
+use Rattle.rrt.specs.Walked.{value}
 use Rattle.rrt.specs.Fields.{valuesAt, firstValueAt, valueEnd, valuesEnd}
 use Rattle.rrt.specs.Inner.{DimensionStands, ValuesStand}
 use Rattle.rrt.proofs.WalkLaws.{value-forward, value-ends, values-walked, dimension-forward}

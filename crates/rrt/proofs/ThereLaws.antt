@@ -21,8 +21,10 @@ use Rattle.descriptor.proofs.ListLaws.{list10-there}
 use Rattle.row.specs.Rows.{partRow}
 use Rattle.rrt.specs.declared.dimension.Dimension.{Dimension}
 use Rattle.rrt.specs.declared.dimension.ValueTexts.{ValueTexts}
-use Rattle.rrt.specs.Format.{scaleHead, ValueFields, valueFormat, value, DimensionFields, dimensionFormat, dimension}
-use Rattle.rrt.specs.Format.{dimensions, dimensionsAndList, RrtFields, rrtFormat, rrt}
+use Rattle.rrt.specs.Format.{scaleHead, ValueFields, valueFormat, DimensionFields, dimensionFormat}
+use Rattle.rrt.specs.Walked.{value, dimension}
+use Rattle.rrt.specs.Format.{RrtFields, rrtFormat}
+use Rattle.rrt.specs.Walked.{dimensions, dimensionsAndList, rrt}
 use Rattle.rrt.specs.Fields.{countAt, firstAt, fieldsAt, valuesAt, firstValueAt, dimensionAt, textsAt, valueEnd, dimensionEnd, dimensionRow, textsRow, valueRow}
 use Rattle.rrt.specs.Values.{partFor, textsFor, valueRowFor, dimensionFor, rowFor, firstValueFor, firstFor, dimensionsEnd, fieldsFor}
 use Rattle.rrt.proofs.WalkLaws.{value-ends, dimension-ends}

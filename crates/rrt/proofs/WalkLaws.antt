@@ -18,7 +18,7 @@ use Rattle.strings.specs.Strings.{sizedText}
 use Rattle.strings.specs.Places.{textEnd}
 use Rattle.strings.proofs.TextLaws.{text-end, text-inside}
 use Rattle.descriptor.specs.Descriptors.{list10, noTag}
-use Rattle.rrt.specs.Format.{value, dimension, dimensions, dimensionsAndList, rrt}
+use Rattle.rrt.specs.Walked.{value, dimension, dimensions, dimensionsAndList, rrt}
 use Rattle.rrt.specs.Fields.{countAt, firstAt, valuesAt, firstValueAt, valueEnd, valuesEnd, dimensionEnd}
 
 -- ---- a count that is not 0, of which g is made, and as many of a format

@@ -5,8 +5,8 @@ use mathlib.Core.List.{List, [], _∷_}
 use Rattle.format.specs.Formats.{One, Format, Filling, seq, exact, under, underAll}
 use Rattle.format.specs.Values.{Field, bits, reserved}
 use Rattle.format.specs.Told.{sized8, sized10, fewNotNone, notNone}
-use Rattle.strings.specs.Strings.{text, sizedText}
-use Rattle.descriptor.specs.Descriptors.{descriptors, list10, noTag}
+use Rattle.strings.specs.Strings.{text}
+use Rattle.descriptor.specs.Descriptors.{descriptors, noTag}
 
 -- a value's short text and long text, each with a length of 8 bits
 pub record ValueFields : Type 0 where
@@ -17,10 +17,6 @@ abbrev pub valueFormat : Format One
 valueFormat =
     under (seq (sized8 text) (sized8 text)) {Y = ValueFields} (λ v. ((record {}, v .short), (record {}, v .long)))
     (λ x. record { short = x .0 .1; long = x .1 .1 }) (λ x. refl) (λ y. refl)
-
--- the same, shut, for the walk that the code is held to (law `same-walk`)
-unfoldable pub value : Format One
-value = valueFormat
 
 -- r 3, graduated_scale 1, and then the count of values
 abbrev pub scaleHead : List Field
@@ -40,18 +36,6 @@ dimensionFormat =
     (λ x. record { name = x .0 .1; r = x .1 .0 .0; scale = x .1 .0 .1 .0; values = x .1 .1 })
     (λ x. refl) (λ y. refl)
 
--- the same, shut
-unfoldable pub dimension : Format One
-dimension = dimensionFormat
-
--- dimensions 8, not 0, and each of them
-unfoldable pub dimensions : Format One
-dimensions = notNone dimension
-
--- what follows the region name: the dimensions; r 6, length 10, descriptors
-unfoldable pub dimensionsAndList : Format One
-dimensionsAndList = seq dimensions (list10 noTag)
-
 -- the region name with a length of 8 bits; the rest
 pub record RrtFields : Type 0 where
   pub name : text .Val
@@ -65,7 +49,3 @@ rrtFormat =
     (λ b. ((record {}, b .name), ((record {}, b .dimensions), ((b .r, record {}), b .descs))))
     (λ x. record { name = x .0 .1; dimensions = x .1 .0 .1; r = x .1 .1 .0 .0; descs = x .1 .1 .1 })
     (λ x. refl) (λ y. refl)
-
--- the same walk, shut, which the code is held to (law `same-walk`)
-unfoldable pub rrt : Filling One
-rrt = exact (seq sizedText dimensionsAndList)

@@ -4,7 +4,7 @@ use mathlib.Core.List.{List}
 use lib.ListN.{length}
 use Rattle.bytes_at.specs.Walks.{many, Stands}
 use Rattle.format.specs.Formats.{walks}
-use Rattle.rrt.specs.Format.{value, dimension}
+use Rattle.rrt.specs.Walked.{value, dimension}
 
 -- a dimension stands at d
 abbrev pub DimensionStands : List ℕ → ℕ → Type 0

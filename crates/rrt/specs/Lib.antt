@@ -1,6 +1,7 @@
--- The definitions, in reading order; Inner is for functions over dimensions and values that were judged; Values is for the laws that
--- tie what is read to the format.
+-- Format, and what is answered for its record in Values, are what is believed. Walked is Format once more, for proofs, Fields what is read at
+-- the bits, which the laws `..-there` tie to Values, and Inner for functions over dimensions and values that were judged.
 pub mod Format
+pub mod Walked
 pub mod Fields
 pub mod Inner
 pub mod Values

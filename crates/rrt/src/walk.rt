@@ -10,7 +10,7 @@ use strings::sized_text;
 ghost use mathlib.Core.Path.{_≡_};
 ghost use Rattle.bytes_at.specs.Walks.{many};
 ghost use Rattle.format.specs.Formats.{walks, walksAll, some};
-ghost use Rattle.rrt.specs.Format.{value, dimension, dimensions, dimensionsAndList, rrt};
+ghost use Rattle.rrt.specs.Walked.{value, dimension, dimensions, dimensionsAndList, rrt};
 
 fn one_value(s: &[u8], end: usize, at: usize) -> Walk
     ensures { λ r. ⌜ r ≡ walks value (now (s .entry)) end at ⌝ }

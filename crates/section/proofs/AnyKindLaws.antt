@@ -5,12 +5,14 @@ use mathlib.Core.Logic.{_↔_}
 use mathlib.Core.List.{List}
 use mathlib.Core.Bool.{Bool, true, false}
 use native.Mathlib.Omega.{arith}
+use lib.Dec.{leb}
 use lib.ListN.{length}
 use borrow.Author.Tests.{eqb-true}
-use Rattle.logic.specs.Choices.{pick, ifLt, ifEq}
+use Rattle.logic.specs.Choices.{pick, ifEq}
 use Rattle.logic.proofs.ChoiceLaws.{eq-yes}
-use Rattle.refusal.specs.Outcomes.{refused, result}
+use Rattle.refusal.specs.Outcomes.{result, orRefuse}
 use Rattle.refusal.proofs.OutcomeLaws.{not-both}
+use Rattle.refusal.proofs.TestLaws.{passed-le}
 use Rattle.kind.specs.declared.Kind.{Kind}
 use Rattle.kind.specs.declared.Kind.the-variants.{Mgt, Tvct, Rrt, Eit, Ett}
 use Rattle.kind.specs.declared.Found.{Found}
@@ -21,7 +23,6 @@ use Rattle.section.specs.declared.header.Header.{Header}
 use Rattle.section.specs.Headers.{tableId, headerBy, ofKind}
 use Rattle.section.specs.Sections.{withBody, verdictBy, plainly, sectionBy}
 use Rattle.section.specs.Encoding.{Section, encode, WellFormed, headerOf}
-use Rattle.section.proofs.PassLaws.{not-less}
 use Rattle.section.proofs.SectionLaws.{header-passed, section-header}
 use Rattle.section.proofs.AcceptedLaws.{exactly}
 
@@ -56,7 +57,7 @@ agree s k e = ap kindOf e ∙ id-found k ∙ eq-yes (tableId s) (tableIdOf k) (I
 
 by : (f g : ℕ → Found) (s : List ℕ) → f (tableId s) ≡ g (tableId s) → sectionBy f s ≡ sectionBy g s
 unfolding sectionBy verdictBy headerBy
-by f g s e = ap (λ x. plainly (withBody (ifLt (length s) 3 (refused 1) (ofKind s x)) s)) e
+by f g s e = ap (λ x. plainly (withBody (orRefuse 1 (leb 3 (length s)) (ofKind s x)) s)) e
 
 some-kind : (f : Found) (s : List ℕ) (h : Header) → ofKind s f ≡ result h → (k : Kind) × (f ≡ Is k)
 unfolding ofKind
@@ -65,7 +66,7 @@ some-kind (Is k) s h e = (k, refl)
 
 read-kind : (s : List ℕ) (h : Header) → headerBy kindOf s ≡ result h → (k : Kind) × (tableId s ≡ tableIdOf k)
 unfolding headerBy
-read-kind s h e = let f = some-kind (kindOf (tableId s)) s h (not-less _ _ _ _ _ e .1) in (f .0, found-id (tableId s) (f .0) (f .1))
+read-kind s h e = let f = some-kind (kindOf (tableId s)) s h (passed-le 1 3 (length s) _ h e .1) in (f .0, found-id (tableId s) (f .0) (f .1))
 
 -- what is accepted, of any kind
 pub exactly-any : (s : List ℕ) → Bytes s → (h : Header)

@@ -15,7 +15,7 @@ use Rattle.format.specs.Lawful.{Lies, Bytes}
 use Rattle.format.specs.Laws.OfBytes.{bytes-append, same-front}
 use Rattle.format.specs.Laws.OfValues.{number-lt, bytes-bytes, bytes-length}
 use Rattle.format.specs.Values.{Vals, Fit, number, bytesOf, valsAt}
-use Rattle.format.specs.Named.{vals-there}
+use Rattle.format.specs.Laws.OfNamed.{vals-there}
 use Rattle.section.specs.declared.header.Header.{Header}
 use Rattle.section.specs.Bodies.{bodyFormat}
 use Rattle.section.specs.Headers.{headerIn, headerBy}

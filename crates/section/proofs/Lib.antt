@@ -1,5 +1,5 @@
 pub mod KindLaws
-pub mod PassLaws
+pub mod TestLaws
 pub mod SectionLaws
 pub mod HeaderLaws
 pub mod EncodingLaws

@@ -7,13 +7,14 @@ use lib.Dec.{eqb}
 use mathlib.Core.Bool.{Bool, true, false}
 use borrow.Author.Tests.{eqb-true}
 use Rattle.logic.specs.Choices.{pick, ifEq}
-use Rattle.logic.proofs.ChoiceLaws.{lt-no, eq-yes, eq-no}
+use Rattle.logic.proofs.ChoiceLaws.{eq-yes}
 use Rattle.bytes_at.specs.Fields.{byteAt}
 use Rattle.bytes_at.specs.declared.Walk.{Walk}
 use Rattle.bytes_at.specs.declared.Walk.the-variants.{To, Bad}
 use Rattle.bytes_at.specs.Walks.{Stands}
 use Rattle.refusal.specs.Outcomes.{Outcome, refused, result}
 use Rattle.refusal.proofs.OutcomeLaws.{not-both}
+use Rattle.refusal.proofs.TestLaws.{lets-eq, passed-le, passed-eq, passed-ne}
 use Rattle.checksum.specs.Register.{register}
 use Rattle.kind.specs.declared.Kind.{Kind}
 use Rattle.kind.specs.declared.Found.{Found}
@@ -21,8 +22,8 @@ use Rattle.kind.specs.declared.Found.the-variants.{Is, Nothing}
 use Rattle.kind.specs.Kinds.{limitsOf, tableIdOf, kindOf, onlyOf}
 use Rattle.section.specs.declared.header.Header.{Header}
 use Rattle.section.specs.Headers.{tableId, syntaxIndicator, privateIndicator, sectionLength, sectionNumber, lastSectionNumber, headerIn, headerBy, ofKind, lengthTests, checksumTest, numberTests}
+use Rattle.section.proofs.TestLaws.{long-enough, lengths-pass, numbers-pass}
 use Rattle.section.specs.Sections.{bodyWalk, byWalk, bodyTest, withBody, verdictBy, plainly, sectionBy}
-use Rattle.section.proofs.PassLaws.{not-less, equal, not-equal}
 
 -- what the header's tests have shown of a section of kind k
 pub record Passed (k : Kind) (s : List ℕ) (h : Header) : Type 0 where
@@ -43,15 +44,15 @@ same a b e = cc
 of-kind : (k : Kind) (s : List ℕ) (h : Header) → ofKind s (Is k) ≡ result h → Passed k s h
 unfolding ofKind lengthTests checksumTest numberTests
 of-kind k s h e =
-    let e1 = not-equal _ _ _ _ _ e in
-    let e2 = not-equal _ _ _ _ _ (e1 .1) in
-    let e3 = not-less _ _ _ _ _ (e2 .1) in
-    let e4 = not-less _ _ _ _ _ (e3 .1) in
-    let e5 = equal _ _ _ _ _ (e4 .1) in
-    let e6 = equal _ _ _ _ _ (e5 .1) in
-    let e7 = equal _ _ _ _ _ (e6 .1) in
-    let e8 = not-less _ _ _ _ _ (e7 .1) in
-    let e9 = not-less _ _ _ _ _ (e8 .1) in
+    let e1 = passed-ne 3 (syntaxIndicator s) 0 _ h e in
+    let e2 = passed-ne 3 (privateIndicator s) 0 _ h (e1 .1) in
+    let e3 = passed-le 4 (limitsOf k .smallest) (sectionLength s) _ h (e2 .1) in
+    let e4 = passed-le 4 (sectionLength s) (limitsOf k .largest) _ h (e3 .1) in
+    let e5 = passed-eq 5 (length s) (sectionLength s + 3) _ h (e4 .1) in
+    let e6 = passed-eq 6 (register s) 0 _ h (e5 .1) in
+    let e7 = passed-eq _ (byteAt s (limitsOf k .«zero_byte»)) 0 _ h (e6 .1) in
+    let e8 = passed-le 8 (sectionNumber s) (lastSectionNumber s) _ h (e7 .1) in
+    let e9 = passed-le 8 (lastSectionNumber s) (limitsOf k .last) _ h (e8 .1) in
     record {
       syntax-one = e1 .0;
       private-one = e2 .0;
@@ -67,13 +68,10 @@ of-kind k s h e =
 
 -- and what they show is all that they ask for
 pub of-kind-passes : (k : Kind) (s : List ℕ) (h : Header) → Passed k s h → result h ≡ ofKind s (Is k)
-unfolding ofKind lengthTests checksumTest numberTests
+unfolding ofKind checksumTest
 of-kind-passes k s h p =
-    let e9 = lt-no _ _ _ _ (p .last-limit) (ap result (p .fields)) in
-    let e7 = eq-yes _ _ _ _ (p .byte-zero) (lt-no _ _ _ _ (p .number-last) e9) in
-    let e5 = eq-yes _ _ _ _ (p .size) (eq-yes _ _ _ _ (p .register-zero) e7) in
-    let e3 = lt-no _ _ _ _ (p .smallest) (lt-no _ _ _ _ (p .largest) e5) in
-    eq-no _ _ _ _ (p .syntax-one) (eq-no _ _ _ _ (p .private-one) e3)
+    let e7 = numbers-pass (limitsOf k) k s (p .byte-zero) (p .number-last) (p .last-limit) (ap result (p .fields)) in
+    lengths-pass (limitsOf k) k s (p .syntax-one) (p .private-one) (p .smallest) (p .largest) (p .size) (lets-eq 6 (register s) 0 (numberTests (limitsOf k) k s) (p .register-zero) e7)
 
 only-kind : (k : Kind) (s : List ℕ) (h : Header) (t : Bool) → ofKind s (pick t (Is k) Nothing) ≡ result h
     → (t ≡ true) × (ofKind s (Is k) ≡ result h)
@@ -84,15 +82,15 @@ only-kind k s h false e = not-both 2 h e
 pub header-passed : (k : Kind) (s : List ℕ) (h : Header) → headerBy (onlyOf k) s ≡ result h → (tableId s ≡ tableIdOf k) × Passed k s h
 unfolding headerBy onlyOf ifEq
 header-passed k s h e =
-    let p = only-kind k s h (eqb (tableId s) (tableIdOf k)) (not-less _ _ _ _ _ e .1) in
+    let p = only-kind k s h (eqb (tableId s) (tableIdOf k)) (passed-le 1 3 (length s) _ h e .1) in
     (eqb-true _ _ (p .0), of-kind k s h (p .1))
 
 pub header-passes : (k : Kind) (s : List ℕ) (h : Header) → 3 ≤ length s → tableId s ≡ tableIdOf k → Passed k s h
     → headerBy (onlyOf k) s ≡ result h
-unfolding headerBy onlyOf
+unfolding onlyOf
 header-passes k s h l i p =
     let found = eq-yes (tableId s) (tableIdOf k) (Is k) Nothing {r = Is k} i refl in
-    sym (lt-no _ _ _ _ l (of-kind-passes k s h p ∙ ap (ofKind s) found))
+    sym (long-enough (onlyOf k) s l (of-kind-passes k s h p ∙ ap (ofKind s) found))
 
 any-kind : (f : Found) (s : List ℕ) (h : Header) → ofKind s f ≡ result h → (k : Kind) × Passed k s h
 unfolding ofKind
@@ -102,7 +100,7 @@ any-kind (Is k) s h e = (k, of-kind k s h e)
 -- the same of a call that reads every kind
 pub any-header-passed : (s : List ℕ) (h : Header) → headerBy kindOf s ≡ result h → (k : Kind) × Passed k s h
 unfolding headerBy
-any-header-passed s h e = any-kind (kindOf (tableId s)) s h (not-less _ _ _ _ _ e .1)
+any-header-passed s h e = any-kind (kindOf (tableId s)) s h (passed-le 1 3 (length s) _ h e .1)
 
 walk-stood : (w : Walk) (g h : Header) → plainly (byWalk w g) ≡ result h → ((e : ℕ) × (w ≡ To e)) × (h ≡ g)
 walk-stood (To e) g h p = ((e, refl), same g h p)

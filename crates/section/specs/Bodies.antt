@@ -2,11 +2,16 @@
 use Rattle.kind.specs.declared.Kind.{Kind}
 use Rattle.kind.specs.declared.Kind.the-variants.{Mgt, Tvct, Rrt, Eit, Ett}
 use Rattle.format.specs.Formats.{One, Filling}
-use Rattle.mgt.specs.Format.{mgtFormat, mgt}
-use Rattle.tvct.specs.Format.{tvctFormat, tvct}
-use Rattle.rrt.specs.Format.{rrtFormat, rrt}
-use Rattle.eit.specs.Format.{eitFormat, eit}
-use Rattle.ett.specs.Format.{ettFormat, ett}
+use Rattle.mgt.specs.Format.{mgtFormat}
+use Rattle.mgt.specs.Walked.{mgt}
+use Rattle.tvct.specs.Format.{tvctFormat}
+use Rattle.tvct.specs.Walked.{tvct}
+use Rattle.rrt.specs.Format.{rrtFormat}
+use Rattle.rrt.specs.Walked.{rrt}
+use Rattle.eit.specs.Format.{eitFormat}
+use Rattle.eit.specs.Walked.{eit}
+use Rattle.ett.specs.Format.{ettFormat}
+use Rattle.ett.specs.Walked.{ett}
 
 unfoldable pub bodyOf : Kind → Filling One
 bodyOf Mgt = mgt

@@ -1,4 +1,4 @@
--- SCOPE 1.3 and 1.5: a section of a kind as a record, which of them are well formed, and their bytes.
+-- SCOPE 1.2 to 1.5: a section of a kind as a record, which of them are well formed, and their bytes.
 use Prim.Native.Nat.{ℕ, _+_, _≤_, _<_}
 use mathlib.Core.Path.{_≡_}
 use mathlib.Core.List.{List, [], _∷_, _++_}

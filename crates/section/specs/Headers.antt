@@ -1,12 +1,13 @@
 -- SCOPE 1.3, and SCOPE 6, numbers 1 to 8: the fields of the header, and its tests in the order of their numbers.
 use Prim.Native.Nat.{ℕ, _+_, _/_, _%_}
+use mathlib.Core.Bool.{not}
 use mathlib.Core.List.{List}
+use lib.Dec.{eqb, leb}
 use lib.ListN.{length}
-use Rattle.logic.specs.Choices.{ifLt, ifEq}
 use Rattle.bytes_at.specs.Fields.{byteAt, wordAt}
 use Rattle.checksum.specs.Register.{register}
 use Rattle.refusal.specs.Numbers.{numberOf}
-use Rattle.refusal.specs.Outcomes.{Outcome, refused, result}
+use Rattle.refusal.specs.Outcomes.{Outcome, refused, result, orRefuse}
 use Rattle.kind.specs.declared.Kind.{Kind}
 use Rattle.kind.specs.declared.Limits.{Limits}
 use Rattle.kind.specs.declared.Found.{Found}
@@ -63,26 +64,24 @@ headerIn k s = record {
 -- the byte that must be 0, with its kind's refusal (7 of protocol_version), and 8
 unfoldable pub numberTests : Limits → Kind → List ℕ → Outcome Header
 numberTests l k s =
-    ifEq (byteAt s (l .«zero_byte»)) 0
-    (ifLt (lastSectionNumber s) (sectionNumber s) (refused 8)
-    (ifLt (l .last) (lastSectionNumber s) (refused 8)
+    orRefuse (numberOf (l .«zero_refusal»)) (eqb (byteAt s (l .«zero_byte»)) 0)
+    (orRefuse 8 (leb (sectionNumber s) (lastSectionNumber s))
+    (orRefuse 8 (leb (lastSectionNumber s) (l .last))
     (result (headerIn k s))))
-    (refused (numberOf (l .«zero_refusal»)))
 
 -- 6
 unfoldable pub checksumTest : Limits → Kind → List ℕ → Outcome Header
-checksumTest l k s = ifEq (register s) 0 (numberTests l k s) (refused 6)
+checksumTest l k s = orRefuse 6 (eqb (register s) 0) (numberTests l k s)
 
 -- 3 to 5
 unfoldable pub lengthTests : Limits → Kind → List ℕ → Outcome Header
 lengthTests l k s =
-    ifEq (syntaxIndicator s) 0 (refused 3)
-    (ifEq (privateIndicator s) 0 (refused 3)
-    (ifLt (sectionLength s) (l .smallest) (refused 4)
-    (ifLt (l .largest) (sectionLength s) (refused 4)
-    (ifEq (length s) (sectionLength s + 3)
-    (checksumTest l k s)
-    (refused 5)))))
+    orRefuse 3 (not (eqb (syntaxIndicator s) 0))
+    (orRefuse 3 (not (eqb (privateIndicator s) 0))
+    (orRefuse 4 (leb (l .smallest) (sectionLength s))
+    (orRefuse 4 (leb (sectionLength s) (l .largest))
+    (orRefuse 5 (eqb (length s) (sectionLength s + 3))
+    (checksumTest l k s)))))
 
 -- 2
 unfoldable pub ofKind : List ℕ → Found → Outcome Header
@@ -91,4 +90,4 @@ ofKind s (Is k) = lengthTests (limitsOf k) k s
 
 -- 1 to 8 of a call that reads the kinds that `finds` finds by their table_id: all five (kindOf), or one (onlyOf k)
 unfoldable pub headerBy : (ℕ → Found) → List ℕ → Outcome Header
-headerBy finds s = ifLt (length s) 3 (refused 1) (ofKind s (finds (tableId s)))
+headerBy finds s = orRefuse 1 (leb 3 (length s)) (ofKind s (finds (tableId s)))

@@ -1,15 +1,13 @@
 -- Once a section is accepted, no reader refuses it by 9: what is told of a record never is.
-use Prim.Native.Nat.{ℕ, zero, suc, _+_, _*_}
+use Prim.Native.Nat.{ℕ, zero, suc, _+_}
 use mathlib.Core.Path.{_≡_, sym, ap, _∙_}
 use mathlib.Core.List.{List, [], _∷_}
 use mathlib.Core.Option.{Option, none, some}
-use mathlib.Core.Bool.{Bool, true, false}
 use native.Mathlib.Omega.{arith}
 use lib.ListN.{length}
-use lib.Dec.{ltb}
-use Rattle.logic.specs.Choices.{pick, ifLt}
 use Rattle.refusal.specs.Outcomes.{Outcome, refused, result, after}
 use Rattle.refusal.proofs.OutcomeLaws.{not-both}
+use Rattle.refusal.proofs.TestLaws.{either-way}
 use Rattle.kind.specs.declared.Kind.{Kind}
 use Rattle.kind.specs.declared.Kind.the-variants.{Mgt, Tvct, Rrt, Eit, Ett}
 use Rattle.kind.specs.Kinds.{onlyOf}
@@ -125,13 +123,9 @@ place-nine i region = fair-reader Eit _ _ (place-reads i region)
 pub ett-nine : NoNine Ett etts.fieldsOf
 ett-nine = fair-reader Ett etts.fieldsOf _ ett-reads (λ y. result-fair _)
 
-room-fair-by : (t : Bool) (n : ℕ) → Fair (pick t (refused 12) (result n))
-room-fair-by true n = other-fair 12 (λ e. omega arith)
-room-fair-by false n = result-fair n
-
 room-fair : (w n room : ℕ) → Fair (roomForRows w n room)
-unfolding roomForRows ifLt
-room-fair w n room = room-fair-by (ltb room (w * n)) n
+unfolding roomForRows
+room-fair w n room = either-way Fair 12 _ (result n) (other-fair 12 (λ e. omega arith)) (result-fair n)
 
 pub rows-nine : (r : Row) (room : ℕ) → NoNine (kindOfEntry (entryFor r)) (λ s. rowsOf r s room)
 rows-nine r room = fair-reader _ _ _ (row-count-reads r room) (λ y. room-fair (rowWidth r) _ room)
@@ -159,14 +153,10 @@ unfolding textCount
 count-nine w s z h q e = units-fair s w h q (count-first (fieldOf s w) _ e)
 
 -- ---- all titles
-titles-fair-by : (t u : Bool) (c : titles.Counts) → Fair (pick t (refused 12) (pick u (refused 12) (result c)))
-titles-fair-by true u c = other-fair 12 (λ e. omega arith)
-titles-fair-by false true c = other-fair 12 (λ e. omega arith)
-titles-fair-by false false c = result-fair c
-
 titles-fair : (c : titles.Counts) (rows units : ℕ) → Fair (titles.roomForTitles c rows units)
-unfolding titles.roomForTitles ifLt
-titles-fair c rows units = titles-fair-by (ltb rows (12 * c .events)) (ltb units (c .units)) c
+unfolding titles.roomForTitles
+titles-fair c rows units =
+    either-way Fair 12 _ _ (other-fair 12 (λ e. omega arith)) (either-way Fair 12 _ (result c) (other-fair 12 (λ e. omega arith)) (result-fair c))
 
 pub titles-nine : (rows units : ℕ) → NoNine Eit (λ s. titles.titlesOf s rows units)
 titles-nine rows units = fair-reader Eit _ _ (titles-read rows units) (λ y. titles-fair _ rows units)

@@ -1,11 +1,12 @@
 -- The rows of all entries are those of the record's entries.
-use Prim.Native.Nat.{ℕ, _+_, _-_}
+use Prim.Native.Nat.{ℕ, _+_, _-_, _*_}
 use mathlib.Core.Path.{_≡_, refl, sym, ap, _∙_}
 use mathlib.Core.List.{List, [], _∷_, _++_}
 use lib.ListN.{length}
 use lib.Seq.{sets}
 use Rattle.refusal.specs.Outcomes.{Outcome, refused, result}
 use Rattle.refusal.proofs.OutcomeLaws.{same-result, after-result, after-refused}
+use Rattle.refusal.proofs.TestLaws.{passed-le}
 use Rattle.format.specs.Lawful.{Lies, Bytes}
 use Rattle.format.specs.Listed.{allOf}
 use Rattle.format.proofs.ListedLaws.{Stand, first-lies, rest-stand}
@@ -15,7 +16,6 @@ use Rattle.rrt.proofs.ThereLaws as rrts
 use Rattle.eit.proofs.ThereLaws as eits
 use Rattle.section.specs.Encoding.{Section, encode, WellFormed}
 use Rattle.section.proofs.EncodingLaws.{encode-bytes, accepts}
-use Rattle.section.proofs.PassLaws.{not-less}
 use Rattle.entry.specs.Entries.{kindOfEntry, firstEntry}
 use Rattle.entry.specs.Records.{recordOf, entriesOf, beginOf}
 use Rattle.entry.proofs.RecordLaws.{first-there, count-there, entries-stand}
@@ -67,7 +67,7 @@ row-count-reads r room = record { tells = count-told r room; refuses = λ s n q.
 
 room-is : (w c room n : ℕ) → roomForRows w c room ≡ result n → c ≡ n
 unfolding roomForRows
-room-is w c room n e = same-result c n (not-less _ _ 12 (result c) n e .1)
+room-is w c room n e = same-result c n (passed-le 12 (w * c) room (result c) n e .1)
 
 store-told : (r : Row) (s l rows : List ℕ) (o : Outcome ℕ) → ((n : ℕ) → o ≡ result n → rowsFrom r s n (firstEntry (entryFor r) s) ≡ rows)
     → withRows r s o l ≡ storedRows l rows o

@@ -29,19 +29,19 @@ use Rattle.entry.specs.Entries.{spotIn}
 use Rattle.section_text.specs.declared.field.Which.the-variants.{Title}
 use Rattle.section_text.specs.Fields.{titleIn, fieldOf}
 use Rattle.section_text.specs.Texts.{textUnits, textReplaced}
-use Rattle.titles.specs.Titles.{TitleTold, refusedBy, textTold, toldOf, titleTold}
+use Rattle.titles.specs.Titles.{TitleTold, refusedTitle, textTold, toldOf, titleTold}
 use Rattle.section_laws.specs.Titled.{sortTold, titleRecord}
 
 -- ---- the numbers of refused texts
 abbrev OfText : ℕ → Type 0
 OfText k = (k ≡ 10) ⊎ (k ≡ 11)
 
-told-fair : (x : Outcome (List ℕ)) (replaced k : ℕ) → Fair x → textTold replaced x ≡ refusedBy k → OfText k
+told-fair : (x : Outcome (List ℕ)) (replaced k : ℕ) → Fair x → textTold replaced x ≡ refusedTitle k → OfText k
 unfolding textTold
 told-fair (refused n) replaced k f e = let q : n ≡ k = cc in subst OfText q f
 told-fair (result us) replaced k f e = let z : _≡_ {A = ℕ} 0 1 = cc in absurd (omega arith)
 
-text-sort : (t : text .Val) → text .Ok (record {}) t → (p : Part) (k : ℕ) → sortTold (titleFor t p) t ≡ refusedBy k → OfText k
+text-sort : (t : text .Val) → text .Ok (record {}) t → (p : Part) (k : ℕ) → sortTold (titleFor t p) t ≡ refusedTitle k → OfText k
 unfolding text structure titleFor sortTold stringsOf
 text-sort none o p k e = let z : _≡_ {A = ℕ} 0 1 = cc in absurd (omega arith)
 text-sort (some []) o p k e = let z : _≡_ {A = ℕ} 0 1 = cc in absurd (omega arith)
@@ -52,7 +52,7 @@ text-sort (some (x ∷ xs)) o p k e =
     told-fair (unitsOf (x ∷ xs) 0) (replacedOf (x ∷ xs) 0) k (subst Fair (units-is t o 0) (units-fair f (length f) 0 (length f) sound 0 (omega (arith, count-is t o)))) e
 
 -- of every event of a well-formed record
-pub title-sort : (a : ℕ) (e : EventFields) → eventFormat .Ok (record {}) e → (k : ℕ) → titleRecord a e ≡ refusedBy k → OfText k
+pub title-sort : (a : ℕ) (e : EventFields) → eventFormat .Ok (record {}) e → (k : ℕ) → titleRecord a e ≡ refusedTitle k → OfText k
 title-sort a e o k q =
     let s = eventFormat .enc e in
     text-sort (e .title) (title-lies s (eventFormat .law (record {}) .bytes e o) 0 e o (take-length s) .0) _ k q

@@ -1,11 +1,12 @@
 -- All events and titles at once are those of the record's events.
-use Prim.Native.Nat.{ℕ, _+_, _-_}
+use Prim.Native.Nat.{ℕ, _+_, _-_, _*_}
 use mathlib.Core.Path.{_≡_, refl, sym, ap, _∙_}
 use mathlib.Core.List.{List, [], _∷_, _++_}
 use lib.ListN.{length}
 use lib.Seq.{sets}
 use Rattle.refusal.specs.Outcomes.{Outcome, refused, result}
 use Rattle.refusal.proofs.OutcomeLaws.{same-result, after-result, after-refused}
+use Rattle.refusal.proofs.TestLaws.{passed-le}
 use Rattle.kind.specs.declared.Kind.the-variants.{Eit}
 use Rattle.part.specs.Parts.{bytesIn}
 use Rattle.format.specs.Lawful.{Lies, Bytes}
@@ -22,7 +23,6 @@ use Rattle.eit.specs.Fields.{titleAt, eventEnd}
 use Rattle.eit.proofs.ThereLaws as eits
 use Rattle.section.specs.Encoding.{Section, encode, WellFormed}
 use Rattle.section.proofs.EncodingLaws.{encode-bytes, accepts}
-use Rattle.section.proofs.PassLaws.{not-less}
 use Rattle.entry.specs.declared.Entry.the-variants.{Event}
 use Rattle.entry.specs.Entries.{entryCount}
 use Rattle.entry.specs.Records.{entriesOf, beginOf}
@@ -101,7 +101,7 @@ module _ (y : Section Eit) (o : WellFormed Eit y) where
 -- what has room is as many as there are
 room-is : (c d : Counts) (rows units : ℕ) → roomForTitles c rows units ≡ result d → c ≡ d
 unfolding roomForTitles
-room-is c d rows units e = same-result c d (not-less _ _ 12 (result c) d (not-less _ _ 12 _ d e .1) .1)
+room-is c d rows units e = same-result c d (passed-le 12 (c .units) units (result c) d (passed-le 12 (12 * c .events) rows _ d e .1) .1)
 
 -- a list that takes what is told of so many events
 store-told : (l told : List ℕ) (from : ℕ → List ℕ) (with : Outcome Counts → List ℕ) (x : Outcome Counts)

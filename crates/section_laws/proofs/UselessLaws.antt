@@ -6,9 +6,9 @@ use mathlib.Core.Path.{_≡_, refl, sym, ap, _∙_}
 use mathlib.Core.List.{List, [], _∷_}
 use native.Mathlib.Omega.{arith}
 use lib.ListN.{length, replicate}
-use Rattle.refusal.specs.Outcomes.{Outcome, refused, result, after}
+use Rattle.refusal.specs.Outcomes.{Outcome, refused, result, after, orRefuse}
 use Rattle.refusal.proofs.OutcomeLaws.{same-result}
-use Rattle.logic.specs.Choices.{ifLt, ifEq}
+use Rattle.logic.specs.Choices.{ifEq}
 use Rattle.kind.specs.declared.Kind.{Kind}
 use Rattle.kind.specs.declared.Kind.the-variants.{Mgt, Tvct, Rrt, Eit, Ett}
 use Rattle.bytes_at.specs.Fields.{byteAt}
@@ -127,7 +127,7 @@ no-ett = apart Ett ettTold (λ t. t .«etm_id») (λ e. omega arith)
 
 -- ---- the rows, where there is room for two: their number, and what a lent list of zeros holds afterwards
 pub no-row-count : (r : Row) → Refuted (kindOfEntry (entryFor r)) (countTold r (2 * rowWidth r))
-unfolding roomForRows ifLt
+unfolding roomForRows orRefuse
 no-row-count row.Table = apart Mgt _ (λ n. n) (λ e. omega arith)
 no-row-count row.Channel = apart Tvct _ (λ n. n) (λ e. omega arith)
 no-row-count row.Dimension = apart Rrt _ (λ n. n) (λ e. omega arith)
@@ -141,7 +141,7 @@ storedTold r out y = storedRows out (rowsTold r y) (countTold r (length out) y)
 
 -- the second number of the full record's first row is not 0
 row-differs : (r : Row) → byteAt (storedTold r (room r) (bare _)) 1 ≡ byteAt (storedTold r (room r) (full _)) 1 → ⊥
-unfolding storedRows roomForRows ifLt allOf partRow nameRow tuningRow serviceRow numbersRow bytesOf nothing asText
+unfolding storedRows roomForRows orRefuse allOf partRow nameRow tuningRow serviceRow numbersRow bytesOf nothing asText
 row-differs row.Table e = omega arith
 row-differs row.Channel e = omega arith
 row-differs row.Dimension e = omega arith
@@ -157,7 +157,7 @@ no-rows r writer u w =
 
 -- ---- the same of the rows of values
 pub no-value-count : Refuted Rrt (valueCountTold 12)
-unfolding roomForRows ifLt valuesIn
+unfolding roomForRows orRefuse valuesIn
 no-value-count = apart Rrt _ (λ n. n) (λ e. omega arith)
 
 abbrev pub valuesStored : List ℕ → Section Rrt → List ℕ
@@ -165,7 +165,7 @@ valuesStored out y = storedRows out (valueRowsTold y) (valueCountTold (length ou
 
 -- the length of the first short text
 value-differs : byteAt (valuesStored (replicate 12 0) (bare Rrt)) 3 ≡ byteAt (valuesStored (replicate 12 0) (full Rrt)) 3 → ⊥
-unfolding storedRows roomForRows ifLt valuesIn numbered partRow bytesOf nothing asText
+unfolding storedRows roomForRows orRefuse valuesIn numbered partRow bytesOf nothing asText
 value-differs e = omega arith
 
 pub no-value-rows : (writer : List ℕ → List ℕ → List ℕ) → Useless Rrt (writer (replicate 12 0)) → Stores Rrt writer valuesStored → ⊥
@@ -222,7 +222,7 @@ no-field-units = apart-text (λ ss. unitsOf ss 0) length (λ e. omega arith)
 
 -- ---- all titles, where there is room for a row and the units of "Tea": how many there are, and what lent lists of zeros hold afterwards
 pub no-titles : Refuted Eit (titlesTold 12 3)
-unfolding titles.roomForTitles ifLt allOf sortTold titles.unitsTold titles.textTold titleFor asText tea stringsOf ofString segmentsFor joined wayOf unitsBy ifEq after
+unfolding titles.roomForTitles orRefuse allOf sortTold titles.unitsTold titles.textTold titleFor asText tea stringsOf ofString segmentsFor joined wayOf unitsBy ifEq after
 no-titles = apart Eit _ (λ c. c .events) (λ e. omega arith)
 
 -- no writer that leaves a number of its list as it was in both
@@ -234,13 +234,13 @@ no-stores writer told l i differ u w =
 -- the ninth number of a row, which is the title's sort
 pub no-title-rows : (writer : List ℕ → List ℕ → List ℕ) → Useless Eit (writer (replicate 12 0))
     → Stores Eit writer (λ out y. storedRows out (titleRows y) (titlesTold (length out) 3 y)) → ⊥
-unfolding storedRows titles.roomForTitles ifLt allOf titleRowsTold sortTold titles.titleRow titles.unitsTold titles.textTold titleFor partRow asText tea stringsOf ofString segmentsFor joined wayOf unitsBy ifEq after
+unfolding storedRows titles.roomForTitles orRefuse allOf titleRowsTold sortTold titles.titleRow titles.unitsTold titles.textTold titleFor partRow asText tea stringsOf ofString segmentsFor joined wayOf unitsBy ifEq after
 no-title-rows writer = no-stores writer _ (replicate 12 0) 8 (λ e. omega arith)
 
 -- the first unit
 pub no-title-units : (writer : List ℕ → List ℕ → List ℕ) → Useless Eit (writer (replicate 3 0))
     → Stores Eit writer (λ out y. storedRows out (titleUnits y) (titlesTold 12 (length out) y)) → ⊥
-unfolding storedRows titles.roomForTitles ifLt allOf sortTold titles.unitsTold titles.textTold titleFor asText tea stringsOf ofString segmentsFor joined wayOf unitsBy ifEq after
+unfolding storedRows titles.roomForTitles orRefuse allOf sortTold titles.unitsTold titles.textTold titleFor asText tea stringsOf ofString segmentsFor joined wayOf unitsBy ifEq after
 no-title-units writer = no-stores writer _ (replicate 3 0) 0 (λ e. omega arith)
 
 -- ---- a library whose judge never looks at the section

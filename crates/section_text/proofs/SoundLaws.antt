@@ -8,14 +8,14 @@ use mathlib.Core.List.{List}
 use mathlib.Core.Option.{Option, none, some}
 use native.Mathlib.Nat.{eq-zero-or-pos}
 use native.Mathlib.Omega.{arith}
-use lib.Dec.{eqb}
+use lib.Dec.{eqb, ltb}
 use lib.ListN.{length}
-use Rattle.logic.specs.Choices.{pick, ifLt, ifEq}
-use Rattle.logic.proofs.ChoiceLaws.{lt-no}
+use Rattle.logic.specs.Choices.{pick, ifEq}
 use Rattle.bytes_at.specs.declared.Walk.the-variants.{To}
 use Rattle.bytes_at.specs.Fields.{byteAt}
 use Rattle.bytes_at.specs.Walks.{Stands}
-use Rattle.refusal.specs.Outcomes.{Outcome, refused, result, after}
+use Rattle.refusal.specs.Outcomes.{Outcome, refused, result, after, orRefuse}
+use Rattle.refusal.proofs.TestLaws.{stops-lt}
 use Rattle.refusal.proofs.OutcomeLaws.{not-both, after-is, after-refused, same-result}
 use Rattle.kind.specs.declared.Kind.the-variants.{Rrt, Eit, Ett}
 use Rattle.kind.specs.Kinds.{limitsOf, onlyOf}
@@ -25,7 +25,7 @@ use Rattle.part.specs.declared.Part.{Part}
 use Rattle.part.specs.Parts.{bytesIn}
 use Rattle.strings.specs.Strings.{text}
 use Rattle.rating.specs.Ratings.{TextPart}
-use Rattle.rrt.specs.Format.{value}
+use Rattle.rrt.specs.Walked.{value}
 use Rattle.rrt.specs.Fields as rrts
 use Rattle.rrt.proofs.WalkLaws.{region-walked, name-walked, value-parts}
 use Rattle.eit.specs.declared.event.Title.the-variants as titles
@@ -46,6 +46,7 @@ use Rattle.entry.proofs.EntryLaws.{entry-found, entry-stands}
 use Rattle.entry.proofs.ValueLaws.{value-found, value-stands}
 use Rattle.text.specs.Strings.{stringCount, stringAt, stringUnits, stringHeading}
 use Rattle.text.proofs.SoundLaws.{Fair, units-fair, heading-there, none-there}
+use Rattle.text.proofs.TextLaws.{place-none}
 use Rattle.section_text.specs.declared.field.Which.{Which}
 use Rattle.section_text.specs.declared.field.Which.the-variants.{Title, Advisory, Extended, RegionName, DimensionName, ShortText, LongText}
 use Rattle.section_text.specs.Fields.{kindFor, titleField, titleIn, placeField, advisoryTextIn, extendedTextIn, regionNameIn, dimensionNameIn, valueIn, shortTextIn, longTextIn, fieldIn, fieldOf}
@@ -188,10 +189,10 @@ nine-first (refused n) k h e = let q : n ≡ 9 = cc in ap refused q
 nine-first (result a) k h e = absurd (h a refl e)
 
 -- one of n that is there is found, and another is 13
-counted-not : {A : Type 0} (i n : ℕ) (o : Outcome A) → (i < n → (a : A) × (ifLt i n o (refused 13) ≡ result a))
-    → ifLt i n o (refused 13) ≡ refused 9 → ⊥
+counted-not : {A : Type 0} (i n : ℕ) (o : Outcome A) → (i < n → (a : A) × (orRefuse 13 (ltb i n) o ≡ result a))
+    → orRefuse 13 (ltb i n) o ≡ refused 9 → ⊥
 counted-not i n o found = ⊎-elim
-    (λ h. nine-not _ 13 (sym (lt-no i n o (refused 13) (omega arith) refl)) (λ e. omega arith))
+    (λ h. nine-not _ 13 (sym (stops-lt 13 i n o (omega arith) refl)) (λ e. omega arith))
     (λ h. let r = found (omega arith) in result-not _ (r .0) (r .1))
     (eq-zero-or-pos (n - i))
 
@@ -235,8 +236,8 @@ fair-not (refused n) f = nine-not (refused n) n refl (λ h. ⊎-elim (λ g. omeg
 fair-not (result us) f = result-not _ us refl
 
 no-heading : (l : List ℕ) (end at k : ℕ) → stringCount l end at ≤ k → stringHeading l end at k ≡ refused 13
-unfolding stringHeading stringAt
-no-heading l end at k h = after-refused _ _ 13 (sym (lt-no k (stringCount l end at) _ (refused 13) h refl))
+unfolding stringHeading
+no-heading l end at k h = after-refused (stringAt l end at k) _ 13 (sym (place-none l end at k h))
 
 module _ (l : List ℕ) (k : ℕ) (sound : walksAll text l (length l) 0 ≡ To (length l)) where
   units-not : stringUnits l (length l) 0 k ≡ refused 9 → ⊥

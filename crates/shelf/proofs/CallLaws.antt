@@ -10,7 +10,7 @@ use Rattle.refusal.proofs.OutcomeLaws.{not-both}
 use Rattle.shelf_state.specs.declared.records.Edition.{Edition}
 use Rattle.shelf_state.specs.declared.records.Shelf.{Shelf}
 use Rattle.shelf.specs.Answers.{After, complete, part, unheard}
-use Rattle.shelf.specs.Calls.{orRefuseWith, refusedBy}
+use Rattle.shelf.specs.Calls.{orRefuseWith, refusedWith}
 use Rattle.shelf.specs.Views.{partOrComplete, statusOf}
 
 -- ---- a test and what follows it
@@ -19,7 +19,7 @@ module _ {A : Type 0} (n : ℕ) (s : Shelf) (t : Bool) (rest : After A) {r : Aft
   unfolding orRefuseWith
   go-on e f = rw e f
 
-  pub stop : t ≡ false → r ≡ refusedBy n s → r ≡ orRefuseWith n s t rest
+  pub stop : t ≡ false → r ≡ refusedWith n s → r ≡ orRefuseWith n s t rest
   unfolding orRefuseWith
   stop e f = rw e f
 

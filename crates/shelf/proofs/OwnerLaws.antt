@@ -25,7 +25,7 @@ use Rattle.refusal.proofs.OutcomeLaws.{not-both, same-result}
 use Rattle.shelf.proofs.EditLaws.{Edited, edited-facts, hearing-same}
 use Rattle.shelf.proofs.PlaceLaws.{place-below}
 use Rattle.shelf.specs.Answers.{After}
-use Rattle.shelf.specs.Calls.{answered, refusedBy}
+use Rattle.shelf.specs.Calls.{answered, refusedWith}
 use Rattle.shelf.specs.Inner.{Ready, Sound, droppedBelow}
 use Rattle.shelf.specs.Delivery.{areaAfter, edited, forOwner, hearing, keeping, ownerIn, placeFor, quiet, received, receivedAt, stored}
 use Rattle.shelf.specs.Views.{sameEdition}
@@ -141,7 +141,7 @@ edited-by s w h y n e f =
         ∙ ap (λ (l : List Watch). record { watches = l; records = s .records; places = s .places; count = s .count }) (set-getD (s .watches) w blankWatch)
 
 -- ---- what a delivery comes to
-pub for-refused : (s : Shelf) (a : Asked) (h : Header) (n k : ℕ) → ownerIn (s .watches) (s .records) a h ≡ refused k → received s a h n ≡ refusedBy k s
+pub for-refused : (s : Shelf) (a : Asked) (h : Header) (n k : ℕ) → ownerIn (s .watches) (s .records) a h ≡ refused k → received s a h n ≡ refusedWith k s
 unfolding received forOwner
 for-refused s a h n k e = ap (forOwner s h n) e
 

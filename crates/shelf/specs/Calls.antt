@@ -15,8 +15,8 @@ use Rattle.shelf.specs.Views.{statusOf}
 
 -- ---- how a call ends
 -- by a refusal, the shelf as it was; by its values and a shelf
-abbrev pub refusedBy : {A : Type 0} → ℕ → Shelf → After A
-refusedBy n s = record { outcome = refused n; shelf = s }
+abbrev pub refusedWith : {A : Type 0} → ℕ → Shelf → After A
+refusedWith n s = record { outcome = refused n; shelf = s }
 
 abbrev pub answered : {A : Type 0} → A → Shelf → After A
 answered x s = record { outcome = result x; shelf = s }
@@ -24,7 +24,7 @@ answered x s = record { outcome = result x; shelf = s }
 -- a refusal is given exactly where its test fails and none before it did
 unfoldable pub orRefuseWith : {A : Type 0} → ℕ → Shelf → Bool → After A → After A
 orRefuseWith n s true r = r
-orRefuseWith n s false r = refusedBy n s
+orRefuseWith n s false r = refusedWith n s
 
 -- ---- an empty shelf of these sizes; where they are out of range, one of no size, which obeys no rules
 unfoldable pub made : ℕ → ℕ → After (Unit {0})

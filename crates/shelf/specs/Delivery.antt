@@ -16,7 +16,7 @@ use Rattle.shelf_state.specs.declared.records.Watch.{Watch}
 use Rattle.shelf_state.specs.declared.records.Place.{Place}
 use Rattle.shelf_state.specs.declared.records.Shelf.{Shelf}
 use Rattle.shelf.specs.Answers.{After}
-use Rattle.shelf.specs.Calls.{refusedBy, answered, orRefuseWith}
+use Rattle.shelf.specs.Calls.{refusedWith, answered, orRefuseWith}
 use Rattle.shelf.specs.Views.{judged, keyIn, editionOf, sameEdition}
 
 -- ---- the watch that a section goes to: 16, 17, 18
@@ -53,7 +53,7 @@ unfoldable pub receivedAt : Shelf → ℕ → Header → ℕ → After ℕ
 receivedAt s w h n = answered (placeFor (edited s w h) w (h .number)) (stored (edited s w h) w (h .number) n)
 
 unfoldable pub forOwner : Shelf → Header → ℕ → Outcome ℕ → After ℕ
-forOwner s h n (refused k) = refusedBy k s
+forOwner s h n (refused k) = refusedWith k s
 forOwner s h n (result w) = receivedAt s w h n
 
 unfoldable pub received : Shelf → Asked → Header → ℕ → After ℕ
@@ -61,7 +61,7 @@ received s a h n = forOwner s h n (ownerIn (s .watches) (s .records) a h)
 
 -- 1 to 9, as the judge says
 unfoldable pub byJudge : Shelf → ℕ → List ℕ → Outcome Header → After ℕ
-byJudge s pid b (refused k) = refusedBy k s
+byJudge s pid b (refused k) = refusedWith k s
 byJudge s pid b (result h) = received s (keyIn pid b) h (length b)
 
 -- what arrives, on a shelf that obeys its rules

@@ -1,6 +1,7 @@
 -- SCOPE 3.5 and 5: the first page to read of the shelf. What a key's watch has collected is its view: its quota, its edition and what is
--- kept of its sections, by number. What a call answers to a key is told here of that view alone, but for an opening's 20 and 21, and what it does to the view of that view, the call and whether it was accepted. How a shelf keeps
--- its views, in watch records, places and an area, is told at the end.
+-- kept of its sections, by number. What a call answers to a key is told here of that view alone, but for an opening (`opened` of
+-- Calls.antt), and what it does to the view is told of that view, the call and whether it was accepted. How a shelf keeps its views, in
+-- watch records, places and an area, is told at the end.
 use Prim.Native.Nat.{ℕ, _+_, _*_}
 use mathlib.Core.Bool.{Bool, true, false, not}
 use mathlib.Core.List.{List}
@@ -35,7 +36,7 @@ pub record View : Type 0 where
 unfoldable pub judged : List ℕ → Outcome Header
 judged b = sectionBy kindOf b
 
--- a key is made here, of a PID and a section's bytes
+-- the key of a section that comes on a PID; no other place makes one of a section's bytes
 abbrev pub keyIn : ℕ → List ℕ → Asked
 keyIn pid b = record { pid = pid; «table_id» = byteAt b 0; extension = wordAt b 3 }
 

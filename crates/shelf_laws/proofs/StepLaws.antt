@@ -30,7 +30,7 @@ answer-law x (fetches f) ok = ap gave (fetching-says (x .shelf) (x .area) ok (f 
 answer-law x (delivers d) ok = ap did (delivery-says (x .shelf) (x .area) ok (d .pid) (d .bytes))
 
 -- ---- an accepted call
-done-tt : (o : Outcome (Unit {0})) → isResult o ≡ true → o ≡ result tt
+pub done-tt : (o : Outcome (Unit {0})) → isResult o ≡ true → o ≡ result tt
 done-tt (refused k) e = true-false false e refl
 done-tt (result x) e = refl
 

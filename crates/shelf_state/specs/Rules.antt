@@ -1,5 +1,5 @@
--- SCOPE 5.3: a definition a rule, in the order given there, and the sizes of SCOPE 5.1. Only open records and taken
--- places, within the sizes in use, are judged.
+-- SCOPE 5.3: a definition a rule, under the rule's letter, and the sizes of SCOPE 5.1. Only open records and taken places, within the
+-- sizes in use, are judged. Of a shelf, `records` is how many watches are in use, and `count` how many places.
 use Prim.Native.Nat.{ℕ, _*_}
 use mathlib.Core.Bool.{Bool, false, not}
 use mathlib.Core.List.{List}
@@ -45,41 +45,41 @@ unfoldable pub inRange : Asked → ℕ → Bool
 inRange a q = leb (a .pid) 8191 & watchable (kindOf (a .«table_id»)) & leb 1 q & leb q 64
 
 -- ---- the rules
--- keys of open watches differ: no earlier open watch has the key
+-- a: no two open watches have the same key: no earlier open watch has the key
 unfoldable pub keysDiffer : Shelf → Bool
 keysDiffer s = all (s .records) (λ j. watchAt s j .live ⇒ not (any j (λ i. isOf (watchAt s i) (asked (watchAt s j .key)))))
 
--- quotas add up to at most the places
+-- b: quotas add up to at most the places
 unfoldable pub quotasFit : Shelf → Bool
 quotasFit s = leb (promised s) (s .count)
 
--- each place is free or holds one section of an open watch, numbered at most its last
+-- c: each place is free or holds one section of an open watch, numbered at most its last
 unfoldable pub placesOwned : Shelf → Bool
 placesOwned s =
     all (s .count) (λ i. placeAt s i .used
     ⇒ ltb (placeAt s i .watch) (s .records) & watchAt s (placeAt s i .watch) .live & leb (placeAt s i .number) (watchAt s (placeAt s i .watch) .edition .last))
 
--- no watch holds a number twice: no earlier place has the section
+-- d: no watch holds a number twice: no earlier place has the section
 unfoldable pub noneTwice : Shelf → Bool
 noneTwice s = all (s .count) (λ j. placeAt s j .used ⇒ not (any j (λ i. holds (placeAt s i) (placeAt s j .watch) (placeAt s j .number))))
 
--- or more than its quota
+-- e: no watch holds more sections than its quota
 unfoldable pub noneAboveQuota : Shelf → Bool
 noneAboveQuota s = all (s .records) (λ w. watchAt s w .live ⇒ leb (heldBy s w) (watchAt s w .quota))
 
--- last is below the quota
+-- f: the last of an edition is below the watch's quota
 unfoldable pub lastBelowQuota : Shelf → Bool
 lastBelowQuota s = all (s .records) (λ w. watchAt s w .live & watchAt s w .edition .heard ⇒ ltb (watchAt s w .edition .last) (watchAt s w .quota))
 
--- a watch with no edition holds nothing
+-- g: a watch with no edition holds nothing
 unfoldable pub unheardEmpty : Shelf → Bool
 unheardEmpty s = all (s .records) (λ w. watchAt s w .live & not (watchAt s w .edition .heard) ⇒ eqb (heldBy s w) 0)
 
--- lengths are at most 4,096
+-- h: lengths are at most 4,096
 unfoldable pub lengthsFit : Shelf → Bool
 lengthsFit s = all (s .count) (λ i. placeAt s i .used ⇒ leb (placeAt s i .length) 4096)
 
--- keys and quotas are in range
+-- i: keys and quotas are in range
 unfoldable pub keysInRange : Shelf → Bool
 keysInRange s = all (s .records) (λ w. watchAt s w .live ⇒ inRange (asked (watchAt s w .key)) (watchAt s w .quota))
 

@@ -5,7 +5,8 @@ use mathlib.Core.List.{List, [], _∷_}
 use mathlib.Core.Option.{none, some}
 use Rattle.format.specs.Formats.{One, Format, Filling, opt, under}
 use Rattle.format.specs.Values.{bits}
-use Rattle.format.specs.Told.{raws, counting, counting-full, sizing}
+use Rattle.format.specs.Told.{raws, counting, counted8, sized8}
+use Rattle.format.specs.Laws.OfFull.{counting-full}
 
 -- compression 8, mode 8, number_bytes 8, and the bytes
 pub record SegmentFields : Type 0 where
@@ -33,7 +34,7 @@ string =
 unfoldable pub structure : Format One
 unfolding string
 structure =
-    under (counting [] 0 refl string) {Y = List StringFields} (λ ss. (record {}, ss)) (λ x. x .1) (λ x. refl) (λ y. refl)
+    under (counted8 string) {Y = List StringFields} (λ ss. (record {}, ss)) (λ x. x .1) (λ x. refl) (λ y. refl)
 
 -- a text field: nothing, or one structure that fills it
 unfoldable pub text : Filling One
@@ -53,4 +54,4 @@ asText x = some x
 
 -- a length of 8 bits and a text of that length
 unfoldable pub sizedText : Format One
-sizedText = sizing [] 0 refl text
+sizedText = sized8 text

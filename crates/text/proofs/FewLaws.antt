@@ -1,19 +1,17 @@
 -- A unit takes a bit or more, so a string has at most eight units for each byte of its field; no text is refused by a number past 13.
 use mathlib.Core.Path.{_≡_, refl, ap, subst}
-use mathlib.Core.Bool.{Bool, true, false}
 use mathlib.Core.List.{List, [], _∷_}
-use Prim.Native.Nat.{ℕ, zero, suc, _+_, _-_, _*_, _%_, _≤_}
+use Prim.Native.Nat.{ℕ, zero, suc, _+_, _-_, _*_, _≤_}
 use native.Mathlib.Omega.{arith}
-use lib.Dec.{eqb, ltb}
 use lib.ListN.{length, take, drop, length-take, length-append}
 use Rattle.bytes_at.specs.declared.Walk.{Walk}
 use Rattle.bytes_at.specs.declared.Walk.the-variants.{To, Bad}
-use Rattle.logic.specs.Choices.{ifEq, ifLt, pick}
 use Rattle.bytes_at.specs.Fields.{byteAt}
 use Rattle.bytes_at.specs.Walks.{fieldsTo, then, many, standing}
 use Rattle.bytes_at.proofs.WalkLaws.{to-is, then-inv, skipped}
 use Rattle.refusal.specs.Outcomes.{Outcome, refused, result, after}
 use Rattle.refusal.proofs.OutcomeLaws.{same-result, not-both}
+use Rattle.refusal.proofs.TestLaws.{passed-lt, either-way}
 use Rattle.annex_c.specs.Codes.{Reading}
 use Rattle.format.specs.Formats.{walks, last, times}
 use Rattle.format.proofs.FieldLaws.{fields-end}
@@ -56,12 +54,8 @@ unfolding segmentText
 compressed-few read s = rw (← length-bits s) (text-few (segmentText read s) (length (bits s)) (coded-fits read (length (bits s)) 0 (bits s)))
 
 utf16-few : (s : List ℕ) → Few (8 * length s) (utf16Units s)
-unfolding utf16Units ifEq
-utf16-few s = by (eqb (length s % 2) 0)
-  where
-    by : (t : Bool) → Few (8 * length s) (pick t (result (pairs s)) (refused 11))
-    by true = omega (arith, pairs-length s)
-    by false = omega arith
+unfolding utf16Units
+utf16-few s = either-way (Few (8 * length s)) 11 _ (result (pairs s)) (omega arith) (omega (arith, pairs-length s))
 
 way-few : (w : Way) (s : List ℕ) → Few (8 * length s) (unitsBy w s)
 unfolding unitsBy titleText descriptionText
@@ -141,12 +135,8 @@ module _ (s : List ℕ) (end at k b : ℕ) where
 
   -- a string that is found lies behind the field's beginning
   pub string-after : stringAt s end at k ≡ result b → at ≤ b
-  unfolding stringAt ifLt
-  string-after = by (ltb k (stringCount s end at))
-    where
-      by : (t : Bool) → pick t (standing (then (many (walks string s end) k (at + 1)) (λ c. fieldsTo (24 ∷ 8 ∷ []) c end))) (refused 13) ≡ result b → at ≤ b
-      by true q = walk-after (many (walks string s end) k (at + 1)) refl q
-      by false q = not-both 13 b q
+  unfolding stringAt
+  string-after q = walk-after (many (walks string s end) k (at + 1)) refl (passed-lt 13 k (stringCount s end at) _ b q .1)
 
 module _ (s : List ℕ) (end at k : ℕ) where
   -- behind the head of the string, if there is one
@@ -166,12 +156,10 @@ module _ (s : List ℕ) (end at k : ℕ) where
   walk-few (To c) e = head-few c (fieldsTo (24 ∷ 8 ∷ []) c end) (omega (arith, strings-forward s end k (at + 1) c e)) refl
 
   pub string-few : Few (8 * (end - at)) (stringUnits s end at k)
-  unfolding stringUnits stringAt ifLt after
-  string-few = by (ltb k (stringCount s end at))
-    where
-      by : (t : Bool) → Few (8 * (end - at)) (after (pick t (standing (then (many (walks string s end) k (at + 1)) (λ b. fieldsTo (24 ∷ 8 ∷ []) b end))) (refused 13)) (λ b. joinedUnits s end (byteAt s (b - 1)) b))
-      by true = walk-few (many (walks string s end) k (at + 1)) refl
-      by false = omega arith
+  unfolding stringUnits stringAt after
+  string-few =
+      either-way (λ x. Few (8 * (end - at)) (after x (λ b. joinedUnits s end (byteAt s (b - 1)) b))) 13 _ _
+      (omega arith) (walk-few (many (walks string s end) k (at + 1)) refl)
 
   pub few-units : (us : List ℕ) → stringUnits s end at k ≡ result us → length us ≤ 8 * (end - at)
   few-units us e = subst (Few (8 * (end - at))) e string-few

@@ -15,7 +15,7 @@ use Rattle.format.specs.Formats.{walks, last, raw, times}
 use Rattle.format.specs.Values.{bits, number, bytesOf}
 use Rattle.format.specs.Laws.OfBytes.{lies-split, fields-fit}
 use Rattle.format.specs.Laws.OfValues.{bytes-length}
-use Rattle.format.specs.Told.{told-there, last-tells}
+use Rattle.format.specs.Laws.OfTold.{told-there, last-tells}
 use Rattle.strings.specs.Strings.{SegmentFields, StringFields, segment, string}
 use Rattle.text.specs.Segments.{wayOf, segmentUnits, replacedBy, segmentReplaced}
 use Rattle.text.specs.Strings.{headingBefore, joined, joinedUnits, joinedReplaced}

@@ -7,11 +7,11 @@ use native.Mathlib.Omega.{arith}
 use lib.ListN.{length, getD, take, drop, length-take}
 use lib.Seq.{sets, set-out, take-all}
 use Rattle.bytes_at.specs.Fields.{byteAt}
-use Rattle.logic.proofs.ChoiceLaws.{eq-yes, eq-no}
 use Rattle.refusal.specs.Numbers.{numberOf}
 use Rattle.refusal.specs.Outcomes.{Outcome, refused, result}
 use Rattle.refusal.specs.declared.Refusal.{Refusal}
 use Rattle.refusal.proofs.OutcomeLaws.{same-result, not-both}
+use Rattle.refusal.proofs.TestLaws.{lets-eq, stops-eq}
 use Rattle.segment.specs.declared.Judged.the-variants.{Refused}
 use Rattle.segment.specs.Text.{Text, done, unit, judgedText}
 use Rattle.segment.specs.Text as texts
@@ -41,11 +41,11 @@ pairs-at (a ∷ b ∷ s) (suc i) h =
 
 pub utf16-even : (s : List ℕ) → length s % 2 ≡ 0 → utf16Units s ≡ result (pairs s)
 unfolding utf16Units
-utf16-even s h = sym (eq-yes (length s % 2) 0 (result (pairs s)) (refused 11) h refl)
+utf16-even s h = sym (lets-eq 11 (length s % 2) 0 (result (pairs s)) h refl)
 
 pub utf16-odd : (s : List ℕ) → (length s % 2 ≡ 0 → ⊥) → utf16Units s ≡ refused 11
 unfolding utf16Units
-utf16-odd s h = sym (eq-no (length s % 2) 0 (result (pairs s)) (refused 11) h refl)
+utf16-odd s h = sym (stops-eq 11 (length s % 2) 0 (result (pairs s)) h refl)
 
 -- ---- what is answered and stored
 pub wrote-units : (x : Outcome (List ℕ)) (l : List ℕ) (n k : ℕ) (us e : List ℕ) → x ≡ result us → k ≡ length us → length us ≤ 2040

@@ -10,7 +10,7 @@ use lib.ListN.{length, length-append}
 use lib.Seq.{take-length}
 use Rattle.bytes_at.specs.declared.Walk.{Walk}
 use Rattle.bytes_at.specs.declared.Walk.the-variants.{To, Bad}
-use Rattle.logic.proofs.ChoiceLaws.{lt-yes, lt-no, eq-yes, eq-no}
+use Rattle.logic.proofs.ChoiceLaws.{eq-yes, eq-no}
 use Rattle.refusal.specs.Outcomes.{Outcome, refused, result, after}
 use Rattle.refusal.proofs.OutcomeLaws.{after-refused}
 use Rattle.format.specs.Lawful.{Lies, Bytes, All, encs}
@@ -24,7 +24,7 @@ use Rattle.text.specs.Strings.{stringCount, stringAt, joinedUnits, strin
 use Rattle.text.specs.Texts.{ofField, fieldCount, fieldUnits, fieldHeading}
 use Rattle.text.specs.Values.{ofString, headingOf, unitsOf, replacedOf}
 use Rattle.text.proofs.AmountLaws.{told-after}
-use Rattle.text.proofs.TextLaws.{field-sound, field-bad}
+use Rattle.text.proofs.TextLaws.{place-there, place-none, field-sound, field-bad}
 use Rattle.text.proofs.ThereLaws.{segments-there, string-there, string-long, Agrees, there-told, none-told}
 
 -- ---- a text that lies from `at` to the end of its container
@@ -50,13 +50,13 @@ module _ (s : List ℕ) (z : Bytes s) (end at : ℕ) (t : text .Val) (o : text .
 
   string-told : {A : Type 0} (asked : ℕ → Outcome A) (told : StringFields → Outcome A) → Agrees s end asked told → (k : ℕ)
       → after (stringAt s end at k) asked ≡ ofString told (stringsOf t) k
-  unfolding string stringAt
+  unfolding string
   string-told asked told agrees k =
       let c = strings-there s z end at t o l e in
       ⊎-elim
-      (λ h. after-refused _ asked 13 (sym (lt-no k (stringCount s end at) _ (refused 13) (omega arith) refl))
+      (λ h. after-refused _ asked 13 (sym (place-none s end at k (omega arith)))
       ∙ none-told told (stringsOf t) k (omega arith))
-      (λ h. ap (λ x. after x asked) (sym (lt-yes k (stringCount s end at) _ (refused 13) (omega arith) refl))
+      (λ h. ap (λ x. after x asked) (sym (place-there s end at k (omega arith) refl))
       ∙ there-told s end asked told agrees (at + 1) (stringsOf t) k (c .1 .0) (c .1 .1 .0) (c .1 .1 .1 (omega arith)) (omega arith))
       (eq-zero-or-pos (length (stringsOf t) - k))
 

@@ -6,8 +6,8 @@ use native.Mathlib.Numerals.{sub-one}
 use native.Mathlib.Omega.{arith}
 use lib.ListN.{length, length-append}
 use lib.Seq.{sets, length-sets}
-use Rattle.logic.proofs.ChoiceLaws.{lt-yes, lt-no}
 use Rattle.refusal.specs.Outcomes.{Outcome, refused, result}
+use Rattle.refusal.proofs.TestLaws.{lets-le, stops-le}
 use Rattle.kind.specs.declared.Kind.the-variants.{Eit}
 use Rattle.kind.specs.Kinds.{limitsOf, onlyOf}
 use Rattle.row.proofs.RowLaws.{sets-append}
@@ -19,7 +19,7 @@ use Rattle.section.specs.declared.header.Header.{Header}
 use Rattle.section.specs.Bodies.{bodyOf}
 use Rattle.section.specs.Sections.{sectionBy}
 use Rattle.section.proofs.SectionLaws.{section-sound}
-use Rattle.titles.specs.Titles.{TitleTold, noTitle, noStrings, refusedBy, text, titleTold, unitsTold, blankRow, titleRow, unitsFrom, titleRowsFrom, eventCount, firstEvent, Counts, roomForTitles, titlesIn, withTitleRows, withUnits}
+use Rattle.titles.specs.Titles.{TitleTold, noTitle, noStrings, refusedTitle, text, titleTold, unitsTold, blankRow, titleRow, unitsFrom, titleRowsFrom, eventCount, firstEvent, Counts, roomForTitles, titlesIn, withTitleRows, withUnits}
 use Rattle.titles.proofs.ReadLaws.{title-few, title-inside}
 
 -- the number of units that a title adds
@@ -75,7 +75,7 @@ row-four : (n : ℕ) (t : TitleTold) → length (titleRow n t) ≡ 4
 unfolding titleRow blankRow
 row-four n noTitle = refl
 row-four n noStrings = refl
-row-four n (refusedBy k) = refl
+row-four n (refusedTitle k) = refl
 row-four n (text us replaced) = refl
 
 pub record TitlesLeft (s : List ℕ) (total : ℕ) (rows₀ rows₁ units₀ units₁ : List ℕ) (o rows units : List ℕ) (a p n k : ℕ) : Type 0 where
@@ -154,14 +154,14 @@ module _ (s rows units : List ℕ) (k from : ℕ) (counted : k ≡ eventCount s)
 
   pub no-rows : length rows < 12 * k → Ends (refused 12) rows units
   unfolding titlesIn roomForTitles
-  no-rows h = refused-ends (lt-yes (length rows) (12 * eventCount s) (refused 12) _ {r = refused 12} (rw counted at h) refl)
+  no-rows h = refused-ends (stops-le 12 (12 * eventCount s) (length rows) _ {r = refused 12} (rw counted at h) refl)
 
   pub no-units : 12 * k ≤ length rows → length units < length (unitsFrom s k from) → Ends (refused 12) rows units
   unfolding titlesIn roomForTitles
   no-units h l =
       refused-ends
-      (lt-no (length rows) (12 * eventCount s) (refused 12) _ {r = refused 12} (rw counted at h)
-      (lt-yes (length units) _ (refused 12) _ {r = refused 12} (rw (counted, begins) at l) refl))
+      (lets-le 12 (12 * eventCount s) (length rows) _ {r = refused 12} (rw counted at h)
+      (stops-le 12 _ (length units) _ {r = refused 12} (rw (counted, begins) at l) refl))
 
   pub both-room : (rows′ units′ : List ℕ) (n : ℕ) → 12 * k ≤ length rows → length (unitsFrom s k from) ≤ length units
       → n ≡ length (unitsFrom s k from) → rows′ ≡ sets rows 0 (titleRowsFrom s 0 k from) → units′ ≡ sets units 0 (unitsFrom s k from)
@@ -170,8 +170,8 @@ module _ (s rows units : List ℕ) (k from : ℕ) (counted : k ≡ eventCount s)
   both-room rows′ units′ n h l count put-rows put-units =
       let c : Counts = record { events = eventCount s; units = length (unitsFrom s (eventCount s) firstEvent) } in
       let e : result c ≡ titlesIn s (length rows) (length units) =
-      lt-no (length rows) (12 * eventCount s) (refused 12) _ {r = result c} (rw counted at h)
-      (lt-no (length units) (length (unitsFrom s (eventCount s) firstEvent)) (refused 12) (result c) {r = result c} (rw (counted, begins) at l) refl) in
+      lets-le 12 (12 * eventCount s) (length rows) _ {r = result c} (rw counted at h)
+      (lets-le 12 (length (unitsFrom s (eventCount s) firstEvent)) (length units) (result c) {r = result c} (rw (counted, begins) at l) refl) in
       (rw (count, counted, begins) e, (rw (← e, ← counted, ← begins) put-rows, rw (← e, ← counted, ← begins) put-units))
 
 -- ---- the events of a section that was judged

@@ -6,7 +6,7 @@ use lib.ListN.{length, take}
 use Rattle.refusal.specs.Numbers.{numberOf}
 use Rattle.titles.specs.declared.title.Found.{Found}
 use Rattle.titles.specs.declared.title.Found.the-variants as found
-use Rattle.titles.specs.Titles.{TitleTold, noTitle, noStrings, refusedBy, text, blankRow}
+use Rattle.titles.specs.Titles.{TitleTold, noTitle, noStrings, refusedTitle, text, blankRow}
 
 -- how many units it has
 abbrev pub unitCount : Found → ℕ
@@ -33,7 +33,7 @@ rowOf n (found.Text a) = 3 ∷ n ∷ a .units ∷ a .replaced ∷ []
 unfoldable pub told : Found → List ℕ → TitleTold
 told found.NoTitle o = noTitle
 told found.NoStrings o = noStrings
-told (found.Refused k) o = refusedBy (numberOf k)
+told (found.Refused k) o = refusedTitle (numberOf k)
 told (found.Text a) o = text (take (a .units) o) (a .replaced)
 
 -- the title t was read: the answer is r, and the array is then o

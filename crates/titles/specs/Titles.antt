@@ -3,9 +3,9 @@ use Prim.Native.Nat.{ℕ, zero, suc, _+_, _*_}
 use mathlib.Core.List.{List, [], _∷_, _++_}
 use lib.ListN.{length}
 use lib.Seq.{sets}
-use Rattle.logic.specs.Choices.{ifLt}
+use lib.Dec.{leb}
 use Rattle.refusal.specs.Numbers.{numberOf}
-use Rattle.refusal.specs.Outcomes.{Outcome, refused, result, after}
+use Rattle.refusal.specs.Outcomes.{Outcome, refused, result, after, orRefuse}
 use Rattle.refusal.specs.Outputs.{noValue}
 use Rattle.kind.specs.declared.Kind.the-variants.{Eit}
 use Rattle.kind.specs.Kinds.{limitsOf, onlyOf}
@@ -24,12 +24,12 @@ use Rattle.titles.specs.declared.TitlesAnswer.the-variants.{Refused, Are
 pub data TitleTold : Type 0 where
   noTitle : TitleTold
   noStrings : TitleTold
-  refusedBy : ℕ → TitleTold
+  refusedTitle : ℕ → TitleTold
   text : List ℕ → ℕ → TitleTold
 
 -- a text by its outcome, and how many of its segments were replaced
 unfoldable pub textTold : ℕ → Outcome (List ℕ) → TitleTold
-textTold replaced (refused k) = refusedBy k
+textTold replaced (refused k) = refusedTitle k
 textTold replaced (result us) = text us replaced
 
 unfoldable pub toldOf : List ℕ → Title → TitleTold
@@ -46,18 +46,18 @@ titleTold s a = toldOf s (titleAt s a)
 unfoldable pub unitsTold : TitleTold → List ℕ
 unitsTold noTitle = []
 unitsTold noStrings = []
-unitsTold (refusedBy k) = []
+unitsTold (refusedTitle k) = []
 unitsTold (text us replaced) = us
 
--- four numbers, none of them 0 for one that the title does not have: its sort (1 no title, 2 no strings, 3 text, and else the number that refuses it, 10 or 11); where its units begin, how many they
--- are, how many of its segments were replaced
+-- four numbers: its sort (1 no title, 2 no strings, 3 text, and else the number that refuses it, 10 or 11); where its units begin, how many
+-- they are, how many of its segments were replaced. Where the title has no text the last three are `noValue`, which is not 0
 unfoldable pub blankRow : ℕ → List ℕ
 blankRow sort = sort ∷ noValue ∷ noValue ∷ noValue ∷ []
 
 unfoldable pub titleRow : ℕ → TitleTold → List ℕ
 titleRow n noTitle = blankRow 1
 titleRow n noStrings = blankRow 2
-titleRow n (refusedBy k) = blankRow k
+titleRow n (refusedTitle k) = blankRow k
 titleRow n (text us replaced) = 3 ∷ n ∷ length us ∷ replaced ∷ []
 
 -- ---- the titles of k events, the first of which begins at a
@@ -87,7 +87,7 @@ pub record Counts : Type 0 where
 
 -- 12 where one of the two lists has no room: exactly enough is enough
 unfoldable pub roomForTitles : Counts → ℕ → ℕ → Outcome Counts
-roomForTitles c rows units = ifLt rows (12 * c .events) (refused 12) (ifLt units (c .units) (refused 12) (result c))
+roomForTitles c rows units = orRefuse 12 (leb (12 * c .events) rows) (orRefuse 12 (leb (c .units) units) (result c))
 
 -- of a section that was judged, in lists of these lengths
 unfoldable pub titlesIn : List ℕ → ℕ → ℕ → Outcome Counts

@@ -10,8 +10,8 @@ use Rattle.bytes_at.proofs.WalkLaws.{then-inv, ended}
 use Rattle.format.specs.Formats.{walks, walksAll}
 use Rattle.format.proofs.FieldLaws.{fields-end}
 use Rattle.descriptor.specs.Descriptors.{list10, noTag}
-use Rattle.channel.specs.Format.{channel}
-use Rattle.tvct.specs.Format.{channels, tvct}
+use Rattle.channel.specs.Walked.{channel}
+use Rattle.tvct.specs.Walked.{channels, tvct}
 use Rattle.tvct.specs.Fields.{countAt, firstAt}
 
 pub body-channels : (s : List ℕ) (end at e : ℕ) → walksAll tvct s end at ≡ To e

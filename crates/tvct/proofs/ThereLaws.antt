@@ -14,8 +14,10 @@ use Rattle.format.proofs.SizedLaws.{counted8-there}
 use Rattle.format.proofs.ListedLaws.{Stand}
 use Rattle.descriptor.specs.Descriptors.{descriptors, list10, noTag}
 use Rattle.descriptor.proofs.ListLaws.{list10-there}
-use Rattle.channel.specs.Format.{channelFormat, channel}
-use Rattle.tvct.specs.Format.{channels, TvctFields, tvctFormat, tvct}
+use Rattle.channel.specs.Format.{channelFormat}
+use Rattle.channel.specs.Walked.{channel}
+use Rattle.tvct.specs.Format.{TvctFields, tvctFormat}
+use Rattle.tvct.specs.Walked.{channels, tvct}
 use Rattle.tvct.specs.Fields.{countAt, firstAt, fieldsAt}
 use Rattle.tvct.specs.Values.{channelsEnd, fieldsFor}
 

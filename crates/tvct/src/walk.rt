@@ -8,7 +8,7 @@ use descriptor::NO_TAG;
 use descriptor::whole_list10;
 ghost use mathlib.Core.Path.{_≡_};
 ghost use Rattle.format.specs.Formats.{walks, walksAll};
-ghost use Rattle.tvct.specs.Format.{channels, tvct};
+ghost use Rattle.tvct.specs.Walked.{channels, tvct};
 
 // The count, and the channels.
 fn all_channels(s: &[u8], end: usize, at: usize) -> Walk

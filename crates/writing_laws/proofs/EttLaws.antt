@@ -16,7 +16,7 @@ use Rattle.format.specs.Lawful.{Lies, Bytes}
 use Rattle.format.specs.Formats.{walksAll}
 use Rattle.format.specs.Laws.OfValues.{bytes-length}
 use Rattle.format.specs.Values.{number, bytesOf}
-use Rattle.format.specs.Told.{counting-full}
+use Rattle.format.specs.Laws.OfFull.{counting-full}
 use Rattle.format.proofs.RelocationLaws.{own-bytes}
 use Rattle.part.specs.Parts.{bytesIn}
 use Rattle.strings.specs.Strings.{string, structure, text, asText}

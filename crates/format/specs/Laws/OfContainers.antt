@@ -16,7 +16,7 @@ use Rattle.bytes_at.proofs.WalkLaws.{to-is, then-to, then-inv, skipped, skip-fi
 use Rattle.format.specs.Lawful.{Walker, Lies, Bytes, Lawful, Fills, OkOpt, encOpt, OkSum, encSum}
 use Rattle.format.specs.Laws.OfBytes.{pick-inv, same-front, after, bytes-append, lies-at, lies-join, lies-split, part-bytes, part-length, part-lies}
 
--- n bytes that a format fills
+-- ---- n bytes that a format fills
 module _ {X : Type 0} {F : Walker} {Ok : X → Type 0} {enc : X → List ℕ} (back n : ℕ) (f : Fills F Ok enc) where
   pub filled-law : Lawful {X = X} (λ s end at. then (skipTo back at n end) (λ e. F s e at)) (λ x. (length (enc x) ≡ n) × Ok x) enc
   filled-law = record {
@@ -38,7 +38,7 @@ module _ {X : Type 0} {F : Walker} {Ok : X → Type 0} {enc : X → List ℕ} (b
     bytes = λ x o. f .bytes x (o .1);
   }
 
--- a format that tells where it ends, and nothing after it
+-- ---- a format that tells where it ends, and nothing after it
 module _ {X : Type 0} {A : Walker} {Ok : X → Type 0} {enc : X → List ℕ} (a : Lawful A Ok enc) where
   exact-whole : (s : List ℕ) (end at e : ℕ) → then (A s end at) (ends end) ≡ To e → (A s end at ≡ To end) × (e ≡ end)
   exact-whole s end at e w =
@@ -56,7 +56,7 @@ module _ {X : Type 0} {A : Walker} {Ok : X → Type 0} {enc : X → List ℕ} (a
     bytes = a .bytes;
   }
 
--- a format that tells where it ends, and one that takes the rest of the container
+-- ---- a format that tells where it ends, and one that takes the rest of the container
 module _ {X Y : Type 0} {A B : Walker} {OkA : X → Type 0} {OkB : Y → Type 0} {encA : X → List ℕ} {encB : Y → List ℕ}
     (a : Lawful A OkA encA) (b : Fills B OkB encB) where
   pub before-law : Fills {X = X × Y} (λ s end at. then (A s end at) (B s end))
@@ -89,7 +89,7 @@ module _ {X Y : Type 0} {A B : Walker} {OkA : X → Type 0} {OkB : Y → Type 0}
     bytes = λ x o. bytes-append (encA (x .0)) (encB (x .1)) (a .bytes (x .0) (o .0)) (b .bytes (x .1) (o .1));
   }
 
--- the same bytes and walk, and other values that stand for the old ones one to one
+-- ---- the same bytes and walk, and other values that stand for the old ones one to one
 module _ {X Y : Type 0} {F : Walker} {Ok : X → Type 0} {enc : X → List ℕ} (f : Fills F Ok enc) (to : Y → X) (from : X → Y)
     (a : (x : X) → to (from x) ≡ x) (b : (y : Y) → from (to y) ≡ y) where
   pub under-law : Fills {X = Y} F (λ y. Ok (to y)) (λ y. enc (to y))
@@ -103,7 +103,7 @@ module _ {X Y : Type 0} {F : Walker} {Ok : X → Type 0} {enc : X → List ℕ} 
     bytes = λ y o. f .bytes (to y) o;
   }
 
--- whatever bytes there are
+-- ---- whatever bytes there are
 pub any-law : Fills {X = List ℕ} (λ s end at. To end) Bytes (λ x. x)
 any-law = record {
   sound = λ s end at x o l h. refl;
@@ -115,7 +115,7 @@ any-law = record {
   bytes = λ x o. o;
 }
 
--- nothing, or a format none of whose values is empty
+-- ---- nothing, or a format none of whose values is empty
 module _ {X : Type 0} {F : Walker} {Ok : X → Type 0} {enc : X → List ℕ} (f : Fills F Ok enc)
     (full : (x : X) → Ok x → 0 < length (enc x)) where
   opt-sound : (s : List ℕ) (end at : ℕ) (x : Option X) → OkOpt Ok x → Lies (encOpt enc x) s at → end ≡ at + length (encOpt enc x)
@@ -149,7 +149,7 @@ module _ {X : Type 0} {F : Walker} {Ok : X → Type 0} {enc : X → List ℕ} (f
   pub opt-law : Fills {X = Option X} (λ s end at. pick (eqb at end) (To at) (F s end at)) (OkOpt Ok) (encOpt enc)
   opt-law = record { sound = opt-sound; complete = opt-complete; unique = opt-unique; whole = opt-whole; bytes = opt-bytes }
 
--- one format or another, by a test on what is told
+-- ---- one format or another, by a test on what is told
 differ : {A : Type 0} {t : Bool} → t ≡ true → t ≡ false → A
 differ e f = let z : _≡_ {A = ℕ} 0 1 = cc in absurd (omega arith)
 

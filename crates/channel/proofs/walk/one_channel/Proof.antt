@@ -1,6 +1,6 @@
 -- `one_channel` meets its contract.
 use Rattle.descriptor.specs.Descriptors.{list10}
-use Rattle.channel.specs.Format.{channel}
+use Rattle.channel.specs.Walked.{channel}
 use Rattle.bytes_at.proofs.WalkLaws.{seq-bad, seq-to}
 use borrow.Author.Needs.{needs}
 use Rattle.channel.proofs.walk.one_channel.Statement.{statement}

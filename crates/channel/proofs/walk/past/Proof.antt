@@ -5,7 +5,7 @@ use borrow.Author.Needs.{needs}
 use Rattle.bytes_at.specs.Walks.{many}
 use Rattle.bytes_at.proofs.WalkLaws.{goes, many-go, many-bad, many-none}
 use Rattle.format.specs.Formats.{walks}
-use Rattle.channel.specs.Format.{channel}
+use Rattle.channel.specs.Walked.{channel}
 use Rattle.channel.proofs.walk.past.Statement.{statement}
 use Rattle.channel.proofs.walk.past.Tie as tie
 

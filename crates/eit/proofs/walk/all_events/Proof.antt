@@ -1,7 +1,7 @@
 -- `all_events` meets its contract.
 use mathlib.Core.Path.{sym, _∙_}
 use Rattle.format.proofs.FieldLaws.{skip-field}
-use Rattle.eit.specs.Format.{events}
+use Rattle.eit.specs.Walked.{events}
 use Rattle.bytes_at.proofs.WalkLaws.{seq-bad, seq-to}
 use borrow.Author.Needs.{needs}
 use Rattle.eit.proofs.walk.all_events.Statement.{statement}

@@ -1,5 +1,5 @@
 -- `body` meets its contract.
-use Rattle.eit.specs.Format.{eit}
+use Rattle.eit.specs.Walked.{eit}
 use Rattle.bytes_at.proofs.WalkLaws.{seq-bad, seq-to}
 use borrow.Author.Needs.{needs}
 use Rattle.eit.proofs.walk.body.Statement.{statement}

@@ -1,7 +1,7 @@
 -- `one_event` meets its contract.
 use Rattle.strings.specs.Strings.{sizedText}
 use Rattle.descriptor.specs.Descriptors.{list12}
-use Rattle.eit.specs.Format.{event}
+use Rattle.eit.specs.Walked.{event}
 use Rattle.bytes_at.proofs.WalkLaws.{seq-bad, seq-to}
 use borrow.Author.Needs.{needs}
 use Rattle.eit.proofs.walk.one_event.Statement.{statement}

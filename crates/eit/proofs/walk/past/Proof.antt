@@ -4,7 +4,7 @@ use native.Mathlib.Omega.{arith}
 use Rattle.bytes_at.specs.Walks.{many}
 use Rattle.bytes_at.proofs.WalkLaws.{goes, many-go, many-bad, many-none}
 use Rattle.format.specs.Formats.{walks}
-use Rattle.eit.specs.Format.{event}
+use Rattle.eit.specs.Walked.{event}
 use borrow.Author.Needs.{needs}
 use Rattle.eit.proofs.walk.past.Statement.{statement}
 use Rattle.eit.proofs.walk.past.Tie as tie

@@ -1,7 +1,7 @@
 -- `body` meets its contract.
 use mathlib.Core.Path.{sym, _∙_}
 use Rattle.format.proofs.FieldLaws.{skip-field}
-use Rattle.ett.specs.Format.{ett}
+use Rattle.ett.specs.Walked.{ett}
 use Rattle.bytes_at.proofs.WalkLaws.{seq-bad, seq-to}
 use borrow.Author.Needs.{needs}
 use Rattle.ett.proofs.walk.body.Statement.{statement}

@@ -1,7 +1,7 @@
 -- `all_tables` meets its contract.
 use mathlib.Core.Path.{sym, _∙_}
 use Rattle.format.proofs.FieldLaws.{skip-field}
-use Rattle.mgt.specs.Format.{tables}
+use Rattle.mgt.specs.Walked.{tables}
 use Rattle.bytes_at.proofs.WalkLaws.{seq-bad, seq-to}
 use borrow.Author.Needs.{needs}
 use Rattle.mgt.proofs.walk.all_tables.Statement.{statement}

@@ -1,5 +1,5 @@
 -- `one_defined` meets its contract.
-use Rattle.mgt.specs.Format.{defined}
+use Rattle.mgt.specs.Walked.{defined}
 use Rattle.descriptor.specs.Descriptors.{list12}
 use Rattle.bytes_at.proofs.WalkLaws.{seq-bad, seq-to}
 use borrow.Author.Needs.{needs}

@@ -5,7 +5,7 @@ use borrow.Author.Needs.{needs}
 use Rattle.bytes_at.specs.Walks.{many}
 use Rattle.bytes_at.proofs.WalkLaws.{goes, many-go, many-bad, many-none}
 use Rattle.format.specs.Formats.{walks}
-use Rattle.mgt.specs.Format.{defined}
+use Rattle.mgt.specs.Walked.{defined}
 use Rattle.mgt.proofs.walk.past.Statement.{statement}
 use Rattle.mgt.proofs.walk.past.Tie as tie
 

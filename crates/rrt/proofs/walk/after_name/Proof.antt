@@ -1,6 +1,6 @@
 -- `after_name` meets its contract.
 use Rattle.bytes_at.proofs.WalkLaws.{seq-bad, seq-to}
-use Rattle.rrt.specs.Format.{dimensionsAndList}
+use Rattle.rrt.specs.Walked.{dimensionsAndList}
 use borrow.Author.Needs.{needs}
 use Rattle.rrt.proofs.walk.after_name.Statement.{statement}
 use Rattle.rrt.proofs.walk.after_name.Tie as tie

@@ -1,7 +1,7 @@
 -- `all_dimensions` meets its contract.
 use mathlib.Core.Path.{sym, _∙_}
 use Rattle.format.proofs.FieldLaws.{skip-field}
-use Rattle.rrt.specs.Format.{dimensions}
+use Rattle.rrt.specs.Walked.{dimensions}
 use Rattle.bytes_at.proofs.WalkLaws.{seq-bad, seq-to}
 use borrow.Author.Needs.{needs}
 use Rattle.rrt.proofs.walk.all_dimensions.Statement.{statement}

@@ -1,7 +1,7 @@
 -- `body` meets its contract.
 use mathlib.Core.Path.{sym, _∙_}
 use Rattle.format.proofs.FormatLaws.{then-assoc}
-use Rattle.rrt.specs.Format.{rrt}
+use Rattle.rrt.specs.Walked.{rrt}
 use Rattle.bytes_at.proofs.WalkLaws.{seq-bad, seq-to}
 use borrow.Author.Needs.{needs}
 use Rattle.rrt.proofs.walk.body.Statement.{statement}

@@ -3,7 +3,7 @@ use mathlib.Core.Path.{sym, _∙_}
 use mathlib.Core.List.{[]}
 use native.Mathlib.Omega.{arith}
 use Rattle.format.proofs.FieldLaws.{skip-field, merge}
-use Rattle.rrt.specs.Format.{value, dimension}
+use Rattle.rrt.specs.Walked.{value, dimension}
 use Rattle.strings.specs.Strings.{sizedText}
 use Rattle.bytes_at.proofs.WalkLaws.{seq-bad, seq-to}
 use borrow.Author.Needs.{needs}

@@ -1,5 +1,5 @@
 -- `one_value` meets its contract.
-use Rattle.rrt.specs.Format.{value}
+use Rattle.rrt.specs.Walked.{value}
 use Rattle.strings.specs.Strings.{sizedText}
 use Rattle.bytes_at.proofs.WalkLaws.{seq-bad, seq-to}
 use borrow.Author.Needs.{needs}

@@ -5,7 +5,7 @@ use borrow.Author.Needs.{needs}
 use Rattle.bytes_at.specs.Walks.{many}
 use Rattle.bytes_at.proofs.WalkLaws.{goes, many-go, many-bad, many-none}
 use Rattle.format.specs.Formats.{walks}
-use Rattle.rrt.specs.Format.{dimension}
+use Rattle.rrt.specs.Walked.{dimension}
 use Rattle.rrt.proofs.walk.past.Statement.{statement}
 use Rattle.rrt.proofs.walk.past.Tie as tie
 

@@ -5,7 +5,7 @@ use borrow.Author.Needs.{needs}
 use Rattle.bytes_at.specs.Walks.{many}
 use Rattle.bytes_at.proofs.WalkLaws.{goes, many-go, many-bad, many-none}
 use Rattle.format.specs.Formats.{walks}
-use Rattle.rrt.specs.Format.{value}
+use Rattle.rrt.specs.Walked.{value}
 use Rattle.rrt.proofs.walk.past_values.Statement.{statement}
 use Rattle.rrt.proofs.walk.past_values.Tie as tie
 

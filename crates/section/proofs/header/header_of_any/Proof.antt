@@ -1,15 +1,12 @@
 -- `header_of_any` meets its contract: 1, then the others.
-use mathlib.Core.Path.{refl}
 use native.Mathlib.Omega.{arith}
-use Rattle.logic.proofs.ChoiceLaws.{lt-yes, lt-no}
-use Rattle.section.specs.Headers.{headerBy}
+use Rattle.section.proofs.TestLaws.{too-short, long-enough}
 use borrow.Author.Needs.{needs}
 use Rattle.section.proofs.header.header_of_any.Statement.{statement}
 use Rattle.section.proofs.header.header_of_any.Tie as tie
 
 returns : tie.Need-returns
-unfolding headerBy
-returns c = lt-yes _ _ _ _ (omega arith) refl
+returns c = too-short _ _ (omega arith)
 
 byte-requires : tie.Need-byte-requires
 byte-requires c κs = search needs
@@ -21,8 +18,7 @@ of-found-requires : tie.Need-of-found-requires
 of-found-requires c κs = search needs
 
 returns-2 : tie.Need-returns-2
-unfolding headerBy
-returns-2 c = lt-no _ _ _ _ (omega arith)
+returns-2 c = long-enough _ _ (omega arith)
     (rw (← c .before .before .byte .ensures .0, ← c .before .of .ensures) (c .of-found .ensures))
 
 pub header-of-any-spec : {M : Type 1} → statement M

@@ -1,8 +1,7 @@
 -- `number_tests` meets its contract: 7 and 8 in this order, then the fields.
-use Rattle.section.specs.Headers.{numberTests}
-use mathlib.Core.Path.{refl, _∙_}
+use mathlib.Core.Path.{_∙_}
 use native.Mathlib.Omega.{arith}
-use Rattle.logic.proofs.ChoiceLaws.{lt-yes, lt-no, eq-yes, eq-no}
+use Rattle.section.proofs.TestLaws.{not-zero, above-last, last-too-large, numbers-pass}
 use borrow.Author.Needs.{needs}
 use Rattle.section.proofs.header.number_tests.Statement.{statement}
 use Rattle.section.proofs.header.number_tests.Tie as tie
@@ -11,8 +10,7 @@ byte-requires : tie.Need-byte-requires
 byte-requires c κs = search needs
 
 returns : tie.Need-returns
-unfolding numberTests
-returns c = eq-no _ _ _ _ (λ e. c .if1 .taken (c .before .byte .ensures .0 ∙ e)) refl
+returns c = not-zero _ _ _ (λ e. c .if1 .taken (c .before .byte .ensures .0 ∙ e))
 
 byte-requires-2 : tie.Need-byte-requires-2
 byte-requires-2 c κs = search needs
@@ -21,12 +19,10 @@ byte-requires-3 : tie.Need-byte-requires-3
 byte-requires-3 c κs = search needs
 
 returns-2 : tie.Need-returns-2
-unfolding numberTests
-returns-2 c = eq-yes _ _ _ _ (omega arith) (lt-yes _ _ _ _ (omega arith) refl)
+returns-2 c = above-last _ _ _ (omega arith) (omega arith)
 
 returns-3 : tie.Need-returns-3
-unfolding numberTests
-returns-3 c = eq-yes _ _ _ _ (omega arith) (lt-no _ _ _ _ (omega arith) (lt-yes _ _ _ _ (omega arith) refl))
+returns-3 c = last-too-large _ _ _ (omega arith) (omega arith) (omega arith)
 
 byte-requires-4 : tie.Need-byte-requires-4
 byte-requires-4 c κs = search needs
@@ -35,10 +31,9 @@ word-requires : tie.Need-word-requires
 word-requires c κs = search needs
 
 returns-4 : tie.Need-returns-4
-unfolding numberTests
 returns-4 c = let n = c .before .before .before .before .before in
-    eq-yes _ _ _ _ (omega arith)
-    (lt-no _ _ _ _ (omega arith) (lt-no _ _ _ _ (omega arith) (rw (c .word .ensures .0, c .before .byte4 .ensures .0, n .byte3 .ensures .0, n .before .byte2 .ensures .0))))
+    numbers-pass _ _ _ (omega arith) (omega arith) (omega arith)
+    (rw (c .word .ensures .0, c .before .byte4 .ensures .0, n .byte3 .ensures .0, n .before .byte2 .ensures .0))
 
 pub number-tests-spec : {M : Type 1} → statement M
 number-tests-spec =

@@ -2,7 +2,7 @@
 use mathlib.Core.Path.{_∙_, ap, sym}
 use borrow.Author.Needs.{needs}
 use Rattle.shelf.proofs.CallLaws.{go-on, stop}
-use Rattle.shelf.specs.Calls.{answered, made, refusedBy}
+use Rattle.shelf.specs.Calls.{answered, made, refusedWith}
 use Rattle.shelf.proofs.calls.empty.Statement.{statement}
 use Rattle.shelf.proofs.calls.empty.Tie as tie
 
@@ -21,7 +21,7 @@ empty-shelf-requires-2 c κs = search needs
 
 returns-2 : tie.Need-returns-2
 unfolding made
-returns-2 c = stop _ _ _ _ (sym (c .before .before .sizes-in-range .ensures) ∙ c .before .if1 .left) (ap (refusedBy 14) (c .empty-shelf2 .ensures))
+returns-2 c = stop _ _ _ _ (sym (c .before .before .sizes-in-range .ensures) ∙ c .before .if1 .left) (ap (refusedWith 14) (c .empty-shelf2 .ensures))
 
 pub empty-spec : {M : Type 1} → statement M
 empty-spec =

@@ -9,7 +9,7 @@ use Rattle.shelf_state.specs.declared.records.Asked.{Asked}
 use Rattle.shelf.proofs.CallLaws.{go-on, stop}
 use Rattle.shelf.proofs.JudgeLaws.{judged-sound}
 use Rattle.shelf.proofs.OwnerLaws.{by-after}
-use Rattle.shelf.specs.Calls.{refusedBy}
+use Rattle.shelf.specs.Calls.{refusedWith}
 use Rattle.shelf.specs.Delivery.{areaAfter, arriving, byJudge, received}
 use Rattle.shelf.proofs.delivery.arrive.Statement.{statement}
 use Rattle.shelf.proofs.delivery.arrive.Tie as tie
@@ -17,7 +17,7 @@ use Rattle.shelf.proofs.delivery.arrive.Tie as tie
 returns : tie.Need-returns
 unfolding arriving areaAfter
 returns c = let g = c .before .before .before .args in
-    by-after (g .area .now) (g .section .now) (refusedBy 15 (g .s)) _ (stop _ _ _ _ (lt-leb _ _ (c .if1 .taken)) refl) (refl, refl)
+    by-after (g .area .now) (g .section .now) (refusedWith 15 (g .s)) _ (stop _ _ _ _ (lt-leb _ _ (c .if1 .taken)) refl) (refl, refl)
 
 judge-requires : tie.Need-judge-requires
 judge-requires c κs = search needs
@@ -37,7 +37,7 @@ keep-requires c κs = (c .before .before .before .before .before .before .before
 returns-2 : tie.Need-returns-2
 unfolding arriving areaAfter byJudge
 returns-2 c = let g = c .before .before .before .before .before .before .before .args in
-    by-after (g .area .now) (g .section .now) (refusedBy (numberOf (c .before .k .given .0 .0)) (g .s)) _
+    by-after (g .area .now) (g .section .now) (refusedWith (numberOf (c .before .k .given .0 .0)) (g .s)) _
     (go-on _ _ _ _ (le-leb _ _ (c .before .before .before .before .if1 .left)) (sym (ap (byJudge (g .s) (g .pid) (g .section .now)) (sym (c .before .before .before .judge .ensures) ∙ ap headOutcome (c .before .k .given .1)))))
     (refl, refl)
 

@@ -4,7 +4,7 @@ use borrow.Author.Tests.{not-false, not-true}
 use borrow.Author.Needs.{needs}
 use Rattle.shelf.proofs.CallLaws.{go-on, stop}
 use Rattle.shelf.proofs.OwnerLaws.{by-after}
-use Rattle.shelf.specs.Calls.{refusedBy}
+use Rattle.shelf.specs.Calls.{refusedWith}
 use Rattle.shelf.specs.Delivery.{areaAfter, arriving, delivered, delivering}
 use Rattle.shelf.proofs.delivery.deliver.Statement.{statement}
 use Rattle.shelf.proofs.delivery.deliver.Tie as tie
@@ -18,7 +18,7 @@ same-length c = search needs
 returns : tie.Need-returns
 unfolding delivered delivering areaAfter
 returns c = let g = c .before .before .before .before .before .args in
-    by-after (g .area .now) (g .section .now) (refusedBy 14 (g .s)) _ (stop _ _ _ _ (sym (c .before .obeys-rules .ensures) ∙ not-true _ (c .if1 .taken)) refl) (refl, refl)
+    by-after (g .area .now) (g .section .now) (refusedWith 14 (g .s)) _ (stop _ _ _ _ (sym (c .before .obeys-rules .ensures) ∙ not-true _ (c .if1 .taken)) refl) (refl, refl)
 
 arrive-requires : tie.Need-arrive-requires
 arrive-requires c κs = sym (c .before .before .obeys-rules .ensures) ∙ not-false _ (c .before .if1 .left)

@@ -1,7 +1,7 @@
 -- `all_channels` meets its contract.
 use mathlib.Core.Path.{sym, _∙_}
 use Rattle.format.proofs.FieldLaws.{skip-field}
-use Rattle.tvct.specs.Format.{channels}
+use Rattle.tvct.specs.Walked.{channels}
 use Rattle.bytes_at.proofs.WalkLaws.{seq-bad, seq-to}
 use borrow.Author.Needs.{needs}
 use Rattle.tvct.proofs.walk.all_channels.Statement.{statement}

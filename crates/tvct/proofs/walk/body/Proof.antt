@@ -1,7 +1,7 @@
 -- `body` meets its contract.
 use mathlib.Core.Path.{sym, _∙_}
 use Rattle.format.proofs.FormatLaws.{then-assoc}
-use Rattle.tvct.specs.Format.{tvct}
+use Rattle.tvct.specs.Walked.{tvct}
 use Rattle.bytes_at.proofs.WalkLaws.{seq-bad, seq-to}
 use borrow.Author.Needs.{needs}
 use Rattle.tvct.proofs.walk.body.Statement.{statement}

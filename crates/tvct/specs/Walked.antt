@@ -1,0 +1,12 @@
+-- The body of a TVCT part by part, shut, for proofs: the walk that the code is held to is that of Format.antt (law `same-walk`).
+use Rattle.format.specs.Formats.{One, Format, Filling, seq, exact}
+use Rattle.format.specs.Told.{counted8}
+use Rattle.descriptor.specs.Descriptors.{list10, noTag}
+use Rattle.channel.specs.Walked.{channel}
+
+-- count 8, and the channels
+unfoldable pub channels : Format One
+channels = counted8 channel
+
+unfoldable pub tvct : Filling One
+tvct = exact (seq channels (list10 noTag))
