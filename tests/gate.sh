@@ -21,16 +21,10 @@ compare() { # NAME COMMAND..
     echo "same: $name"
 }
 
-# The kit proves a library once more as it writes it, so two are made at a time.
-libraries() {
-    printf '%s\n' bench_calls guide lent | xargs -P 2 -n 1 sh tools/staticlib.sh
-}
-
 listed_as() { # EXAMPLE
     timeout 10 sh tools/run.sh target/bin/lister < "$1.bin" | diff "$1.txt" -
 }
 
-compare libraries_for_c libraries
 for name in test_judging test_reading test_text test_writing test_shelf test_lent; do
     compare "$name" python3 "tests/$name.py" --check
 done

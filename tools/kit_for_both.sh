@@ -1,11 +1,11 @@
 #!/bin/sh
 # Prints the folder of a kit that writes a library as code for x86-64, as the kit does, and the same module as Arm code too, into arm.o of that
 # folder: links to the kit, and a clang that is called a second time with the other target. What is proved is the same: the proof ends at
-# the language's machine, whichever back end follows. tools/kit_for_both.sh NAME: a folder for each library, since two may be made at once. Run it from the repository's root.
+# the language's machine, whichever back end follows. Run it from the repository's root.
 set -e
 home=${RATTLE_HOME:-$(dirname "$(dirname "$(readlink -f "$(command -v rt)")")")}
 on=on/$(uname -m)
-made=$(pwd)/target/kit/$1
+made=$(pwd)/target/kit
 mkdir -p "$made/$on/toolchain/bin"
 for f in "$home"/*; do [ "${f##*/}" = on ] || ln -sfn "$f" "$made/${f##*/}"; done
 for f in "$home/$on"/*; do [ "${f##*/}" = toolchain ] || ln -sfn "$f" "$made/$on/${f##*/}"; done

@@ -13,7 +13,7 @@ if [ "$(uname -m)" = x86_64 ]; then
     cp target/bin/lister $made
 else
     # An unchanged program is not compiled again, and the Arm code is made where it is compiled.
-    kit=$(sh tools/kit_for_both.sh lister)
+    kit=$(sh tools/kit_for_both.sh)
     rm -f target/stamp/lister "$kit/arm.o"
     RATTLE_HOME=$kit rt check lister >target/guide/lister.log 2>&1 || { cat target/guide/lister.log; exit 1; }
     gcc -o $made "$kit/arm.o" tools/errno.c

@@ -8,7 +8,7 @@ wanted=$lib/${2:-$(uname -m)}/lib$1.a
 if [ -e "$wanted" ] && [ -z "$(find crates crates.txt -type f -newer "$wanted" -print -quit)" ]; then
     exit 0
 fi
-kit=$(sh tools/kit_for_both.sh "$1")
+kit=$(sh tools/kit_for_both.sh)
 mkdir -p $lib/x86_64 $lib/aarch64
 rm -f $lib/*/lib"$1".a "$kit/arm.o" "$kit/arm.log"
 RATTLE_HOME=$kit rt staticlib "$1" >"$lib/$1.log" 2>&1 || { cat "$lib/$1.log"; exit 1; }

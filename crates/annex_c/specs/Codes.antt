@@ -47,7 +47,7 @@ escapeAlone (code p s (c ∷ []) ∷ []) = bothHold (eqb s 27) (eqb c 1)
 escapeAlone (code p s (c ∷ []) ∷ row ∷ rows) = false
 escapeAlone (code p s (c ∷ d ∷ cs) ∷ rows) = false
 
--- the rule for the trees of two bytes 155, which are those of the priors with the escape alone (Test): both bits mean escape
+-- the rule for the trees of two bytes 155, which are those of the priors with the escape alone (`pairs` of Meaning.antt): both bits mean escape
 -- although one code is printed
 unfoldable pub meant : ℕ → List Code → List Code
 meant p rows = elim (escapeAlone rows) [ true ↦ code p 27 (0 ∷ []) ∷ rows | false ↦ rows ]

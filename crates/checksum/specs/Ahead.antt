@@ -16,6 +16,6 @@ StandsFor u a = (a < 2 ^ 40) × (rest a ≡ u)
 abbrev pub StandsAfter : List ℕ → ℕ → ℕ → ℕ → Type 0
 StandsAfter s a n b = (q : ℕ) → StandsFor (bitsIn 8 0 q) a → StandsFor (bitsIn n 0 (registerFrom q s)) b
 
--- and r is it, after the bytes s
+-- r is the register after the bytes s, where a stands for the one before them after eight bits 0
 abbrev pub End : List ℕ → ℕ → ℕ → Type 0
 End s a r = (q : ℕ) → StandsFor (bitsIn 8 0 q) a → r ≡ registerFrom q s

@@ -132,7 +132,7 @@ unfoldable pub recorded : (B : Build) → B .Memory → List Turn → List Excha
 recorded B x [] = []
 recorded B x (t ∷ ts) = record { call = t .call; answer = B .turn x t .answer } ∷ recorded B (B .turn x t .next) ts
 
--- the sections that were accepted for a key since its watch was opened, the newest first; none where it is not watched
+-- the sections that were accepted for a key since its watch was opened, or since the stretch began, the newest first; none where it is not watched
 pub record Heard : Type 0 where
   pub head : Header
   pub bytes : List ℕ

@@ -4,7 +4,8 @@ use mathlib.Core.List.{List}
 use mathlib.Core.Option.{Option}
 use Rattle.logic.specs.Choices.{ifEq}
 use Rattle.part.specs.Parts.{endOf}
-use Rattle.rating.specs.Ratings.{Rated, ratingIn, Descriptor, descriptorIn, TextPart, textIn}
+use Rattle.rating.specs.Ratings.{ratingIn, descriptorIn, textIn}
+use Rattle.rating.specs.Values.{Rated, Descriptor, TextPart}
 use Rattle.eit.specs.declared.search.Sought.{Sought}
 use Rattle.eit.specs.declared.search.Sought.the-variants.{At, Nowhere}
 use Rattle.eit.specs.Fields.{headAt, descriptorsAt, eventEnd}

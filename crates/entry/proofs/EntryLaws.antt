@@ -28,7 +28,8 @@ use Rattle.entry.specs.declared.Entry.{Entry}
 use Rattle.entry.specs.declared.Entry.the-variants.{Table, Channel, Dimension, Event}
 use Rattle.entry.specs.declared.Spot.{Spot}
 use Rattle.entry.specs.declared.Spot.the-variants.{At}
-use Rattle.entry.specs.Entries.{kindOfEntry, startOf, formatOf, entryCount, firstEntry, entryWalk, spotIn, spotOf, restIn}
+use Rattle.entry.specs.Entries.{formatOf, entryCount, firstEntry, entryWalk, spotIn, spotOf, restIn}
+use Rattle.entry.specs.Records.{kindOfEntry, startOf}
 use Rattle.entry.specs.Inner.{Begins, Inside}
 
 -- ---- an entry that is counted begins where the walk stands, and 13 where it is not

@@ -30,8 +30,8 @@ use Rattle.section.specs.Encoding.{Section, encode, WellFormed}
 use Rattle.section.proofs.EncodingLaws.{body-lies, body-ends, encode-bytes, accepts}
 use Rattle.entry.specs.declared.Entry.{Entry}
 use Rattle.entry.specs.declared.Entry.the-variants.{Table, Channel, Dimension, Event}
-use Rattle.entry.specs.Entries.{kindOfEntry, startOf, formatOf, entryCount, firstEntry, entryWalk, spotIn, spotOf, restIn, valueSpot}
-use Rattle.entry.specs.Records.{recordOf, entriesOf, beginOf, ofEntry, ofValue}
+use Rattle.entry.specs.Entries.{formatOf, entryCount, firstEntry, entryWalk, spotIn, spotOf, restIn, valueSpot}
+use Rattle.entry.specs.Records.{kindOfEntry, startOf, recordOf, entriesOf, beginOf, ofEntry, ofValue}
 
 -- ---- what is told of number i, where so many are counted
 module _ (f : Format One) (s : List ℕ) (end : ℕ) {A : Type 0} (answer : ℕ → Outcome A) (told : ℕ → f .Val → Outcome A)

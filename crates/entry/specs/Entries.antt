@@ -7,9 +7,7 @@ use Rattle.bytes_at.specs.declared.Walk.{Walk}
 use Rattle.bytes_at.specs.Walks.{many, standing}
 use Rattle.refusal.specs.Numbers.{numberOf}
 use Rattle.refusal.specs.Outcomes.{Outcome, refused, result, after, orRefuse}
-use Rattle.kind.specs.declared.Kind.{Kind}
-use Rattle.kind.specs.declared.Kind.the-variants.{Mgt, Tvct, Rrt, Eit}
-use Rattle.kind.specs.Kinds.{limitsOf, onlyOf}
+use Rattle.kind.specs.Kinds.{onlyOf}
 use Rattle.format.specs.Formats.{One, Format, walks}
 use Rattle.mgt.specs.Walked.{defined}
 use Rattle.mgt.specs.Fields as mgts
@@ -24,18 +22,9 @@ use Rattle.entry.specs.declared.Entry.{Entry}
 use Rattle.entry.specs.declared.Entry.the-variants.{Table, Channel, Dimension, Event}
 use Rattle.entry.specs.declared.Spot.{Spot}
 use Rattle.entry.specs.declared.Spot.the-variants.{Refused, At}
+use Rattle.entry.specs.Records.{kindOfEntry, startOf}
 
 -- ---- the entries that tables repeat
--- the kind of table that repeats the entry, and where its body starts
-abbrev pub kindOfEntry : Entry → Kind
-kindOfEntry Table = Mgt
-kindOfEntry Channel = Tvct
-kindOfEntry Dimension = Rrt
-kindOfEntry Event = Eit
-
-abbrev pub startOf : Entry → ℕ
-startOf e = limitsOf (kindOfEntry e) .body
-
 -- the entry's format
 unfoldable pub formatOf : Entry → Format One
 formatOf Table = defined

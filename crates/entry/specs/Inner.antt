@@ -5,7 +5,8 @@ use lib.ListN.{length}
 use Rattle.entry.specs.declared.Entry.{Entry}
 use Rattle.entry.specs.declared.Spot.{Spot}
 use Rattle.entry.specs.declared.Spot.the-variants.{Refused, At}
-use Rattle.entry.specs.Entries.{startOf, firstEntry}
+use Rattle.entry.specs.Entries.{firstEntry}
+use Rattle.entry.specs.Records.{startOf}
 
 -- the body and the first entry begin within the bytes
 pub record Begins (e : Entry) (s : List ℕ) : Type 0 where

@@ -1,21 +1,30 @@
 -- SCOPE 2 and 6.2: the entries of a section by its record, and what is told of entry i.
-use Prim.Native.Nat.{ℕ}
+use Prim.Native.Nat.{ℕ, _+_}
 use mathlib.Core.List.{List}
 use Rattle.refusal.specs.Outcomes.{Outcome, refused}
 use Rattle.format.specs.Formats.{One, Format}
 use Rattle.format.specs.Listed.{nthOf}
 use Rattle.mgt.specs.Format.{definedFormat}
-use Rattle.mgt.specs.Fields as mgts
 use Rattle.channel.specs.Format.{channelFormat}
-use Rattle.tvct.specs.Fields as tvcts
 use Rattle.rrt.specs.Format.{ValueFields, valueFormat, DimensionFields, dimensionFormat}
 use Rattle.rrt.specs.Values.{firstFor, firstValueFor}
 use Rattle.eit.specs.Format.{eventFormat}
-use Rattle.eit.specs.Fields as eits
+use Rattle.kind.specs.declared.Kind.{Kind}
+use Rattle.kind.specs.declared.Kind.the-variants.{Mgt, Tvct, Rrt, Eit}
+use Rattle.kind.specs.Kinds.{limitsOf}
 use Rattle.section.specs.Encoding.{Section}
 use Rattle.entry.specs.declared.Entry.{Entry}
 use Rattle.entry.specs.declared.Entry.the-variants.{Table, Channel, Dimension, Event}
-use Rattle.entry.specs.Entries.{kindOfEntry, startOf}
+
+-- the kind of table that repeats the entry, and where its body starts
+abbrev pub kindOfEntry : Entry → Kind
+kindOfEntry Table = Mgt
+kindOfEntry Channel = Tvct
+kindOfEntry Dimension = Rrt
+kindOfEntry Event = Eit
+
+abbrev pub startOf : Entry → ℕ
+startOf e = limitsOf (kindOfEntry e) .body
 
 -- the entry's format, with its record as values
 abbrev pub recordOf : Entry → Format One
@@ -24,7 +33,7 @@ recordOf Channel = channelFormat
 recordOf Dimension = dimensionFormat
 recordOf Event = eventFormat
 
--- the entries of a section, and where the first begins
+-- the entries of a section, and where the first begins: behind the count, and of an RRT behind its name too
 abbrev pub entriesOf : (e : Entry) → Section (kindOfEntry e) → List (recordOf e .Val)
 entriesOf Table y = y .body .tables
 entriesOf Channel y = y .body .channels
@@ -32,10 +41,10 @@ entriesOf Dimension y = y .body .dimensions
 entriesOf Event y = y .body .events
 
 abbrev pub beginOf : (e : Entry) → Section (kindOfEntry e) → ℕ
-beginOf Table y = mgts.firstAt (startOf Table)
-beginOf Channel y = tvcts.firstAt (startOf Channel)
+beginOf Table y = startOf Table + 2
+beginOf Channel y = startOf Channel + 1
 beginOf Dimension y = firstFor (startOf Dimension) (y .body)
-beginOf Event y = eits.firstAt (startOf Event)
+beginOf Event y = startOf Event + 1
 
 -- what is told of entry i, by its place and its record; 13 where there is none
 abbrev pub ofEntry : (e : Entry) {A : Type 0} → (ℕ → recordOf e .Val → Outcome A) → ℕ → Section (kindOfEntry e) → Outcome A

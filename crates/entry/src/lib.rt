@@ -10,7 +10,8 @@ ghost use mathlib.Core.Path.{_≡_};
 ghost use Prim.Native.Nat.{_≤_};
 ghost use lib.ListN.{length};
 ghost use Rattle.bytes_at.specs.Walks.{standing};
-ghost use Rattle.entry.specs.Entries.{kindOfEntry, entryCount, firstEntry, entryWalk, spotIn, spotOf, restIn, valueSpot, spotOutcome};
+ghost use Rattle.entry.specs.Entries.{entryCount, firstEntry, entryWalk, spotIn, spotOf, restIn, valueSpot, spotOutcome};
+ghost use Rattle.entry.specs.Records.{kindOfEntry};
 ghost use Rattle.entry.specs.Inner.{Begins, Inside};
 
 pub enum Entry {

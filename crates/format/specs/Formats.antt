@@ -156,8 +156,8 @@ times f = record {
 }
 
 -- as often as is told by a count `back` bytes before, and not 0 times
-abbrev pub some : ℕ → Format One → Format ℕ
-some back f = record {
+abbrev pub oneOrMore : ℕ → Format One → Format ℕ
+oneOrMore back f = record {
   Val = List (f .Val);
   Ok = λ n xs. (0 < n) × ((length xs ≡ n) × All (f .Ok (record {})) xs);
   enc = encs (f .enc);

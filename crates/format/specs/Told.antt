@@ -8,7 +8,7 @@ use mathlib.Core.List.{List, [], _∷_, _++_}
 use native.Mathlib.Omega.{arith}
 use lib.ListN.{length}
 use Rattle.format.specs.Lawful.{Bytes}
-use Rattle.format.specs.Formats.{One, Format, Filling, Reader, Recast, last, lastWord, through, head, raw, filled, times, some, via}
+use Rattle.format.specs.Formats.{One, Format, Filling, Reader, Recast, last, lastWord, through, head, raw, filled, times, oneOrMore, via}
 use Rattle.bytes_at.proofs.BitLaws.{word-bits}
 use Rattle.format.specs.Values.{Field, bits, reserved, width, steps, Vals, number, valsAt}
 use Rattle.format.specs.Laws.OfValues.{bytes-length, bytes-bytes}
@@ -58,12 +58,12 @@ module _ (fs : List Field) (n : ℕ) (whole : width fs + n ≡ 8) where
       (λ v m x o. o .0)
 
   abbrev pub fewNotNone : Format One → Format One
-  fewNotNone f = told fs n 1 whole (through (λ x. x % 2 ^ n) last) (λ v m. m) (low8-tells fs 0 (width fs) n whole (omega arith)) (some 1 f)
+  fewNotNone f = told fs n 1 whole (through (λ x. x % 2 ^ n) last) (λ v m. m) (low8-tells fs 0 (width fs) n whole (omega arith)) (oneOrMore 1 f)
       (λ x. length x) (λ v m x o. o .1 .0)
 
 -- a count of 8 bits that may not be 0, and as many
 abbrev pub notNone : Format One → Format One
-notNone f = told [] 8 1 refl last (λ v m. m) (last-tells [] 0 refl) (some 1 f) (λ x. length x) (λ v m x o. o .1 .0)
+notNone f = told [] 8 1 refl last (λ v m. m) (last-tells [] 0 refl) (oneOrMore 1 f) (λ x. length x) (λ v m x o. o .1 .0)
 
 -- a count of 16 bits, and as many
 abbrev pub counted16 : Format One → Format One

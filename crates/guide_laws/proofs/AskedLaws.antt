@@ -8,13 +8,13 @@ use native.Mathlib.Omega.{arith}
 use borrow.Author.Tests.{ltb-false}
 use lib.Dec.{eqb, ltb}
 use Rattle.logic.specs.Choices.{pick, ifLt, ifEq}
-use Rattle.refusal.specs.Outcomes.{result}
+use Rattle.refusal.specs.Outcomes.{result, orNone}
 use Rattle.refusal.proofs.OutcomeLaws.{not-both}
 use Rattle.bytes_at.specs.Fields.{byteAt}
 use Rattle.format.specs.Formats.{One}
 use Rattle.format.specs.Lawful.{Bytes}
-use Rattle.rating.specs.Ratings.{Rated, noAdvisory, regionAbsent, dimensionAbsent, firstMatch, descriptorSize, ratedSize, regionSize, ratingIn, textIn, descriptorIn}
-use Rattle.reading.specs.Eits.{orNone}
+use Rattle.rating.specs.Ratings.{firstMatch, descriptorSize, ratedSize, regionSize, ratingIn, textIn, descriptorIn}
+use Rattle.rating.specs.Values.{Rated, noAdvisory, regionAbsent, dimensionAbsent}
 use Rattle.telling.specs.Told.{noted}
 use Rattle.telling.specs.Ratings.{ratingNumbers, descriptorNumbers, textNumbers}
 use Rattle.guide_laws.proofs.SmallLaws.{Small, told-whole}

@@ -21,7 +21,8 @@ use Rattle.writing.specs.Written.{allowed, eitWritten, ettWritten}
 use Rattle.strings.specs.Places.{textEnd}
 use Rattle.entry.specs.declared.Entry.{Entry}
 use Rattle.entry.specs.declared.Entry.the-variants.{Table, Channel, Dimension, Event}
-use Rattle.entry.specs.Entries.{kindOfEntry, entryCount, firstEntry}
+use Rattle.entry.specs.Entries.{entryCount, firstEntry}
+use Rattle.entry.specs.Records.{kindOfEntry}
 use Rattle.rows.specs.declared.Row.{Row}
 use Rattle.rows.specs.Rows.{entryFor, rowWidth, roomForRows, rowsIn, rowsOf}
 use Rattle.rows.specs.Values.{valueCount, valueRowsIn, valueRowsOf}

@@ -13,7 +13,7 @@ use Rattle.kind.specs.declared.Kind.{Kind}
 use Rattle.kind.specs.declared.Kind.the-variants.{Mgt, Tvct, Rrt, Eit, Ett}
 use Rattle.kind.specs.Kinds.{limitsOf, onlyOf}
 use Rattle.bytes_at.specs.Fields.{wordAt}
-use Rattle.format.specs.Formats.{One}
+use Rattle.format.specs.Formats.{One, walks}
 use Rattle.format.specs.Lawful.{Bytes}
 use Rattle.part.specs.declared.Part.{Part}
 use Rattle.row.specs.Rows.{partRow}
@@ -24,14 +24,14 @@ use Rattle.section.specs.Sections.{sectionBy}
 use Rattle.section.proofs.SectionLaws.{section-sound}
 use Rattle.entry.specs.declared.Entry.{Entry}
 use Rattle.entry.specs.declared.Entry.the-variants.{Dimension}
-use Rattle.entry.specs.Entries.{kindOfEntry, spotOf, spotIn, restIn, entryWalk, entryCount, valueSpot}
+use Rattle.entry.specs.Entries.{spotOf, spotIn, restIn, entryWalk, entryCount, valueSpot}
+use Rattle.entry.specs.Records.{kindOfEntry}
 use Rattle.bytes_at.proofs.WalkLaws.{standing-is}
 use Rattle.entry.proofs.EntryLaws.{entries-inside, judged-begins}
 use Rattle.entry.proofs.ValueLaws.{values-inside}
 use Rattle.rrt.specs.Walked.{value}
 use Rattle.rrt.specs.Fields.{valuesAt, firstValueAt}
 use Rattle.bytes_at.specs.Walks.{many}
-use Rattle.format.specs.Formats.{walks}
 use Rattle.telling.specs.Told.{noted}
 use Rattle.telling.proofs.ToldLaws.{as-told}
 

@@ -15,7 +15,7 @@ use Rattle.shelf_state.specs.declared.records.Watch.{Watch}
 use Rattle.lent_memory.specs.Meaning.{clamp, recordOf, rowSize}
 use Rattle.lent_memory.specs.declared.records.LentWatch.{LentWatch}
 
--- ---- equal
+-- ---- when two records or places are equal, field by field
 unfoldable pub equalBool : Bool → Bool → Bool
 equalBool true b = b
 equalBool false b = not b

@@ -12,7 +12,8 @@ use Rattle.strings.specs.Strings.{segment, string, structure, text, sizedText}
 use Rattle.descriptor.specs.Descriptors.{content, descriptor, descriptors, list12}
 use Rattle.descriptor.specs.Places.{listAt, listEnd}
 use Rattle.text.specs.Segments.{wayOf, pairs, utf16Units, unitsBy, segmentUnits}
-use Rattle.text.specs.Strings.{stringCount, stringAt, joined, joinedUnits, stringUnits}
+use Rattle.text.specs.Strings.{stringCount, stringAt, joinedUnits, stringUnits}
+use Rattle.text.specs.Values.{joined}
 use Rattle.eit.specs.Walked.{event, events, eit}
 use Rattle.eit.specs.Fields.{titlePart, titleAt, descriptorsAt, eventAt, eventEnd}
 use Rattle.eit.specs.Titles.{titleOf}

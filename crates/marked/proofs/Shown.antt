@@ -35,7 +35,8 @@ use Rattle.shelf.specs.Calls.{orRefuseWith, made, openedInRange, opened, closed
 use Rattle.shelf.specs.Delivery.{ownerIn, forOwner, edited, placeAmong, receivedAt, received, byJudge, arriving, delivering, delivered, areaAfter}
 use Rattle.shelf.specs.Views.{judged, sameEdition}
 use Rattle.text.specs.Segments.{wayOf, pairs, utf16Units, unitsBy, segmentUnits}
-use Rattle.text.specs.Strings.{stringCount, stringAt, joined, joinedUnits, stringUnits}
+use Rattle.text.specs.Strings.{stringCount, stringAt, joinedUnits, stringUnits}
+use Rattle.text.specs.Values.{joined}
 use Rattle.text.specs.Texts.{ofField, fieldUnits}
 use Rattle.record.specs.Records.{whole}
 use Rattle.shown.specs.Ascii.{decimalBy, decimal, field}

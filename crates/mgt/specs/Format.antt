@@ -39,7 +39,7 @@ definedFormat =
     (λ x. record { head = headIn (x .0); r = x .1 .0 .0; descs = x .1 .1 })
     (λ x. refl) (λ y. refl)
 
--- the tables; r 4, descriptors_length 12, descriptors
+-- tables_defined 16, and the tables; r 4, descriptors_length 12, descriptors
 pub record MgtFields : Type 0 where
   pub tables : List DefinedFields
   pub r : ℕ

@@ -11,7 +11,6 @@ use Rattle.row.specs.Rows.{partRow}
 use Rattle.mgt.specs.declared.defined.Defined.{Defined}
 use Rattle.mgt.specs.declared.table.Table.{Table}
 use Rattle.mgt.specs.Format.{definedHead, headOf, DefinedFields, definedFormat, MgtFields}
-use Rattle.mgt.specs.Fields.{firstAt}
 
 -- ---- a defined table that begins at a
 -- where its descriptors stand: after the head and a length of two bytes
@@ -39,7 +38,7 @@ OnesDefined x = Ones definedHead (headOf (x .head)) × (x .r ≡ 15)
 -- ---- the table, whose body begins at `at`
 -- where all that it defines are passed
 abbrev pub tablesEnd : ℕ → MgtFields → ℕ
-tablesEnd at b = firstAt at + length (encs (definedFormat .enc) (b .tables))
+tablesEnd at b = at + 2 + length (encs (definedFormat .enc) (b .tables))
 
 -- its own fields: the descriptors stand behind those, after a length of two bytes
 abbrev pub fieldsFor : ℕ → MgtFields → Table

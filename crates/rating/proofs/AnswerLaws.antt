@@ -19,7 +19,8 @@ use Rattle.rating.specs.declared.SoughtDescriptor.{SoughtDescriptor}
 use Rattle.rating.specs.declared.SoughtDescriptor.the-variants as found
 use Rattle.rating.specs.declared.SoughtText.{SoughtText}
 use Rattle.rating.specs.declared.SoughtText.the-variants as part
-use Rattle.rating.specs.Ratings.{Rated, noAdvisory, regionAbsent, dimensionAbsent, value, ratedOf, Descriptor, soughtDescriptor, TextPart, soughtText, descriptorSize, regionSize, firstMatch, advisoryIn, regionIn, ratedByRegion, ratingIn, regionTextAt, textIn}
+use Rattle.rating.specs.Ratings.{ratedOf, soughtDescriptor, soughtText, descriptorSize, regionSize, firstMatch, advisoryIn, regionIn, ratedByRegion, ratingIn, regionTextAt, textIn}
+use Rattle.rating.specs.Values.{Rated, noAdvisory, regionAbsent, dimensionAbsent, value, Descriptor, TextPart}
 use Rattle.rating.proofs.FirstLaws.{first-past}
 
 -- ---- an answer's meaning is that of one answer only

@@ -16,7 +16,8 @@ use Rattle.format.specs.Formats.{walks, walksAll}
 use Rattle.format.proofs.FieldLaws.{fields-end}
 use Rattle.format.proofs.RepeatLaws.{list-none, list-first}
 use Rattle.descriptor.specs.Descriptors.{content, descriptor, descriptors}
-use Rattle.rating.specs.Ratings.{Descriptor, descriptorSize, descriptorAt, descriptorIn}
+use Rattle.rating.specs.Ratings.{descriptorSize, descriptorAt, descriptorIn}
+use Rattle.rating.specs.Values.{Descriptor}
 use Rattle.rating.proofs.FirstLaws.{none-past, descriptor-here, descriptor-next}
 
 -- ---- what may be missing

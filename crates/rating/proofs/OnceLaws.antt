@@ -7,7 +7,8 @@ use Rattle.rating.specs.declared.SoughtDescriptor.{SoughtDescriptor}
 use Rattle.rating.specs.declared.SoughtDescriptor.the-variants as found
 use Rattle.rating.specs.declared.SoughtText.{SoughtText}
 use Rattle.rating.specs.declared.SoughtText.the-variants as part
-use Rattle.rating.specs.Ratings.{Rated, noAdvisory, regionAbsent, dimensionAbsent, value, ratedOf, Descriptor, soughtDescriptor, TextPart, soughtText}
+use Rattle.rating.specs.Ratings.{ratedOf, soughtDescriptor, soughtText}
+use Rattle.rating.specs.Values.{Rated, noAdvisory, regionAbsent, dimensionAbsent, value, Descriptor, TextPart}
 
 pub ratingFor : Rated → Rating
 ratingFor noAdvisory = NoAdvisory

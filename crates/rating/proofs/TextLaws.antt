@@ -8,8 +8,7 @@ use lib.ListN.{length}
 use Rattle.format.specs.Lawful.{Lies, Bytes}
 use Rattle.strings.specs.Strings.{text, sizedText}
 use Rattle.descriptor.specs.Descriptors.{region, advisory, content, descriptor, descriptors, descriptorsOf, regionBytes, descriptorBytes, contentAdvisory}
-use Rattle.rating.specs.Ratings.{TextPart}
-use Rattle.rating.specs.Values.{textFrom, textBy, regionPlace, placeFrom, textPlace}
+use Rattle.rating.specs.Values.{TextPart, textFrom, textBy, regionPlace, placeFrom, textPlace}
 use Rattle.rating.proofs.ListedLaws.{sought-there}
 use Rattle.rating.proofs.ValueLaws.{text-values, advisory-values, descriptor-values}
 

@@ -14,8 +14,8 @@ use Rattle.format.specs.Laws.OfBytes.{lies-split}
 use Rattle.format.specs.Laws.OfValues.{bytes-length}
 use Rattle.format.specs.Listed.{firstWith, nthOf}
 use Rattle.descriptor.specs.Descriptors.{dimension, region, advisory, content, tagged-full, descriptor, descriptors, descriptorsOf, regionBytes, contentBytes, descriptorBytes, contentAdvisory}
-use Rattle.rating.specs.Ratings.{regionAbsent, dimensionAbsent, noAdvisory, value, descriptorSize, ratedSize, regionSize, advisoryIn, regionIn, ratedByRegion, ratedByAdvisory, ratingIn, regionTextAt, textIn, descriptorIn}
-use Rattle.rating.specs.Values.{byRegion, byAdvisory, ratedBy, regionPlace, placeFrom, textPlace, descriptorFor}
+use Rattle.rating.specs.Ratings.{descriptorSize, ratedSize, regionSize, advisoryIn, regionIn, ratedByRegion, ratedByAdvisory, ratingIn, regionTextAt, textIn, descriptorIn}
+use Rattle.rating.specs.Values.{regionAbsent, dimensionAbsent, noAdvisory, value, byRegion, byAdvisory, ratedBy, regionPlace, placeFrom, textPlace, descriptorFor}
 use Rattle.rating.proofs.FirstLaws.{dimensions-fit, first-none, first-past, none-past, descriptor-here, descriptor-next}
 use Rattle.rating.proofs.DescriptorLaws.{two}
 use Rattle.rating.proofs.ListedLaws.{no-more, first-there, placeless}

@@ -1,2 +1,2 @@
-pub mod Ratings
 pub mod Values
+pub mod Ratings

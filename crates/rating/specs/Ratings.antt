@@ -12,35 +12,18 @@ use Rattle.rating.specs.declared.SoughtDescriptor.{SoughtDescriptor}
 use Rattle.rating.specs.declared.SoughtDescriptor.the-variants as found
 use Rattle.rating.specs.declared.SoughtText.{SoughtText}
 use Rattle.rating.specs.declared.SoughtText.the-variants as part
+use Rattle.rating.specs.Values.{Rated, noAdvisory, regionAbsent, dimensionAbsent, value, Descriptor, TextPart}
 
--- ---- the answers
--- a rating question answers: no advisory, region absent, dimension absent, or a value
-pub data Rated : Type 0 where
-  noAdvisory : Rated
-  regionAbsent : Rated
-  dimensionAbsent : Rated
-  value : ℕ → Rated
-
+-- ---- what the code's answers mean
 abbrev pub ratedOf : Rating → Rated
 ratedOf NoAdvisory = noAdvisory
 ratedOf RegionAbsent = regionAbsent
 ratedOf DimensionAbsent = dimensionAbsent
 ratedOf (Value v) = value v
 
--- a descriptor's tag, and where its content stands
-pub record Descriptor : Type 0 where
-  pub tag : ℕ
-  pub start : ℕ
-  pub size : ℕ
-
 abbrev pub soughtDescriptor : SoughtDescriptor → Option Descriptor
 soughtDescriptor (found.Is t a n) = some (record { tag = t; start = a; size = n })
 soughtDescriptor found.Nothing = none
-
--- where a text stands
-pub record TextPart : Type 0 where
-  pub start : ℕ
-  pub size : ℕ
 
 abbrev pub soughtText : SoughtText → Option TextPart
 soughtText (part.Is a n) = some (record { start = a; size = n })

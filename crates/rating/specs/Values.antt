@@ -8,8 +8,27 @@ use lib.ListN.{length}
 use Rattle.format.specs.Listed.{nthOf, firstWith, sought}
 use Rattle.strings.specs.Strings.{text}
 use Rattle.descriptor.specs.Descriptors.{RegionFields, AdvisoryFields, DescriptorFields, regionBytes, contentBytes, descriptorBytes, contentAdvisory}
-use Rattle.rating.specs.Ratings.{Rated, noAdvisory, regionAbsent, dimensionAbsent, value, Descriptor, TextPart}
 
+-- ---- the answers
+-- a rating question answers: no advisory, region absent, dimension absent, or a value
+pub data Rated : Type 0 where
+  noAdvisory : Rated
+  regionAbsent : Rated
+  dimensionAbsent : Rated
+  value : ℕ → Rated
+
+-- a descriptor's tag, and where its content stands
+pub record Descriptor : Type 0 where
+  pub tag : ℕ
+  pub start : ℕ
+  pub size : ℕ
+
+-- where a text stands
+pub record TextPart : Type 0 where
+  pub start : ℕ
+  pub size : ℕ
+
+-- ---- of the values of a list
 -- a region answers by its first such dimension
 unfoldable pub byRegion : ℕ → RegionFields → Rated
 byRegion dimension g = sought (λ q. q .dimension) dimension (λ q. value (q .value)) dimensionAbsent (g .ratings)

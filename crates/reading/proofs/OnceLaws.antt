@@ -3,7 +3,7 @@ use mathlib.Core.Path.{_≡_, refl, ap}
 use Rattle.refusal.specs.Outcomes.{Outcome, refused, result}
 use Rattle.refusal.proofs.NumberLaws.{numbered, numbered-back}
 use Rattle.refusal.proofs.OutcomeLaws.{once-by}
-use Rattle.rating.specs.Ratings.{Rated, Descriptor, TextPart}
+use Rattle.rating.specs.Values.{Rated, Descriptor, TextPart}
 use Rattle.rating.proofs.OnceLaws.{ratingFor, rating-back as rated-back}
 use Rattle.mgt.specs.declared.table.Table.{Table as Mgt}
 use Rattle.mgt.specs.declared.defined.Defined.{Defined}

@@ -11,9 +11,8 @@ use Rattle.refusal.specs.Outcomes.{result}
 use Rattle.kind.specs.declared.Kind.the-variants.{Ett}
 use Rattle.kind.specs.Kinds.{limitsOf, onlyOf}
 use Rattle.format.specs.Formats.{walks}
-use Rattle.part.specs.declared.Part.{Part}
 use Rattle.part.specs.Parts.{endOf, bytesIn}
-use Rattle.rating.specs.Ratings.{Descriptor, TextPart}
+use Rattle.rating.specs.Values.{Descriptor, TextPart}
 use Rattle.rating.proofs.DescriptorLaws.{descriptor-within}
 use Rattle.rating.proofs.AnswerLaws.{text-within}
 use Rattle.eit.specs.Walked.{event}

@@ -1,17 +1,17 @@
 -- SCOPE 2.4, 3.3 and 6.2: the fields of an EIT and of its event i, and what is asked of that event: 1 to 9, then 13.
 use Prim.Native.Nat.{ℕ}
 use mathlib.Core.Bool.{Bool}
-use mathlib.Core.Option.{Option, none, some}
 use mathlib.Core.List.{List}
 use lib.ListN.{length}
 use Rattle.refusal.specs.Numbers.{numberOf}
-use Rattle.refusal.specs.Outcomes.{Outcome, refused, result, after, orRefuse}
+use Rattle.refusal.specs.Outcomes.{Outcome, refused, result, after, orRefuse, orNone}
 use Rattle.kind.specs.Kinds.{limitsOf, onlyOf}
 use Rattle.section.specs.Sections.{sectionBy}
 use Rattle.kind.specs.declared.Kind.the-variants.{Eit}
 use Rattle.format.specs.Formats.{walksAll}
 use Rattle.descriptor.specs.Descriptors.{contentAdvisory, descriptors as descriptorList}
-use Rattle.rating.specs.Ratings.{Rated, ratedOf, ratingIn, Descriptor, descriptorIn, TextPart, textIn}
+use Rattle.rating.specs.Ratings.{ratedOf, ratingIn, descriptorIn, textIn}
+use Rattle.rating.specs.Values.{Rated, Descriptor, TextPart}
 use Rattle.eit.specs.declared.table.Table.{Table}
 use Rattle.eit.specs.declared.event.Event.{Event}
 use Rattle.eit.specs.Fields.{fieldsAt, eventAt}
@@ -53,11 +53,6 @@ ratingOutcome (ratings.Is r) = result (ratedOf r)
 
 unfoldable pub ratingOf : List ℕ → ℕ → ℕ → ℕ → Outcome Rated
 ratingOf s i region dimension = after (spotOf entries.Event s i) (λ a. result (ratingAt s a region dimension))
-
--- 13 where nothing was found
-abbrev pub orNone : {A : Type 0} → Option A → Outcome A
-orNone none = refused 13
-orNone (some x) = result x
 
 -- descriptor k
 abbrev pub descriptorOutcome : DescriptorAnswer → Outcome Descriptor

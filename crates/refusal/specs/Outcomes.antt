@@ -1,6 +1,7 @@
 -- SCOPE 6.1 and 12.3: every call ends in a result or in one numbered refusal. What a call answers, in these numbers and values.
 use Prim.Native.Nat.{ℕ}
 use mathlib.Core.Bool.{Bool, true, false}
+use mathlib.Core.Option.{Option, none, some}
 
 pub data Outcome (A : Type 0) : Type 0 where
   refused : ℕ → Outcome A
@@ -15,3 +16,8 @@ after (result a) k = k a
 unfoldable pub orRefuse : {A : Type 0} → ℕ → Bool → Outcome A → Outcome A
 orRefuse n true o = o
 orRefuse n false o = refused n
+
+-- 13 where there is nothing of that number
+abbrev pub orNone : {A : Type 0} → Option A → Outcome A
+orNone none = refused 13
+orNone (some a) = result a

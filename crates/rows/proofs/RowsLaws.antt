@@ -28,7 +28,8 @@ use Rattle.eit.proofs.RowLaws.{row-eight}
 use Rattle.section.specs.declared.header.Header.{Header}
 use Rattle.section.specs.Sections.{sectionBy}
 use Rattle.section.proofs.SectionLaws.{section-sound}
-use Rattle.entry.specs.Entries.{kindOfEntry, formatOf, entryCount, firstEntry, entryWalk}
+use Rattle.entry.specs.Entries.{formatOf, entryCount, firstEntry, entryWalk}
+use Rattle.entry.specs.Records.{kindOfEntry}
 use Rattle.entry.specs.Inner.{Begins}
 use Rattle.entry.proofs.EntryLaws.{entry-inside, judged-entries, judged-begins}
 use Rattle.rows.specs.declared.Row.{Row}

@@ -13,7 +13,8 @@ use Rattle.eit.specs.Fields.{eventRow, eventEnd}
 use Rattle.section.specs.Sections.{sectionBy}
 use Rattle.entry.specs.declared.Entry.{Entry}
 use Rattle.entry.specs.declared.Entry.the-variants as entries
-use Rattle.entry.specs.Entries.{kindOfEntry, entryCount, firstEntry}
+use Rattle.entry.specs.Entries.{entryCount, firstEntry}
+use Rattle.entry.specs.Records.{kindOfEntry}
 use Rattle.rows.specs.declared.Row.{Row}
 use Rattle.rows.specs.declared.Row.the-variants.{Table, Channel, Dimension, Event}
 use Rattle.rows.specs.declared.RowsAnswer.{RowsAnswer}

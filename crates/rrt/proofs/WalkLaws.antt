@@ -12,7 +12,7 @@ use Rattle.bytes_at.specs.Fields.{byteAt}
 use Rattle.bytes_at.specs.Walks.{fieldsTo, then, many}
 use Rattle.bytes_at.proofs.WalkLaws.{to-is, never, then-inv, ended}
 use Rattle.format.specs.Formats.{One, Format, walks, walksAll}
-use Rattle.format.specs.Formats.{some as some-of}
+use Rattle.format.specs.Formats.{oneOrMore}
 use Rattle.format.proofs.FieldLaws.{fields-end, merge}
 use Rattle.strings.specs.Strings.{sizedText}
 use Rattle.strings.specs.Places.{textEnd}
@@ -30,7 +30,7 @@ module _ (f : Format One) (g : ℕ → ℕ) (s : List ℕ) (end at b : ℕ) wher
       by true e = never x b e
       by false e = e
 
-  some-stands : then (fieldsTo (8 ∷ []) at end) (λ c. some-of 1 f .walk (g (byteAt s (c - 1))) s end c) ≡ To b
+  some-stands : then (fieldsTo (8 ∷ []) at end) (λ c. oneOrMore 1 f .walk (g (byteAt s (c - 1))) s end c) ≡ To b
       → (many (walks f s end) (g (byteAt s at)) (at + 1) ≡ To b) × (at + 1 ≤ end)
   some-stands w =
       let p = then-inv _ _ b w in
@@ -67,11 +67,11 @@ values-end s end (suc n) a b w =
 -- ---- a dimension: its name, and its values
 module _ (s : List ℕ) (end d b : ℕ) (w : walks dimension s end d ≡ To b) where
   parts : (c : ℕ) × ((walks sizedText s end d ≡ To c)
-      × (then (fieldsTo (8 ∷ []) c end) (λ x. some-of 1 value .walk (byteAt s (x - 1) % 16) s end x) ≡ To b))
+      × (then (fieldsTo (8 ∷ []) c end) (λ x. oneOrMore 1 value .walk (byteAt s (x - 1) % 16) s end x) ≡ To b))
   unfolding dimension value sizedText
   parts =
       let p = then-inv _ _ b w in
-      (p .0, (p .1 .0, ap (λ v. then v (λ x. some-of 1 value .walk (byteAt s (x - 1) % 16) s end x)) (sym (merge 4 4 [] (p .0) end (omega arith))) ∙ p .1 .1))
+      (p .0, (p .1 .0, ap (λ v. then v (λ x. oneOrMore 1 value .walk (byteAt s (x - 1) % 16) s end x)) (sym (merge 4 4 [] (p .0) end (omega arith))) ∙ p .1 .1))
 
   pub name-walked : walks sizedText s end d ≡ To (textEnd s d)
   name-walked = parts .1 .0 ∙ ap To (text-end s end d (parts .0) (parts .1 .0))

@@ -36,7 +36,7 @@ dimensionFormat =
     (λ x. record { name = x .0 .1; r = x .1 .0 .0; scale = x .1 .0 .1 .0; values = x .1 .1 })
     (λ x. refl) (λ y. refl)
 
--- the region name with a length of 8 bits; the rest
+-- the region name with a length of 8 bits; dimensions 8, not 0, and each of them; r 6, length 10, descriptors
 pub record RrtFields : Type 0 where
   pub name : text .Val
   pub dimensions : List DimensionFields

@@ -9,7 +9,7 @@ use descriptor::whole_list10;
 use strings::sized_text;
 ghost use mathlib.Core.Path.{_≡_};
 ghost use Rattle.bytes_at.specs.Walks.{many};
-ghost use Rattle.format.specs.Formats.{walks, walksAll, some};
+ghost use Rattle.format.specs.Formats.{walks, walksAll, oneOrMore};
 ghost use Rattle.rrt.specs.Walked.{value, dimension, dimensions, dimensionsAndList, rrt};
 
 fn one_value(s: &[u8], end: usize, at: usize) -> Walk
@@ -40,7 +40,7 @@ pub fn past_values(s: &[u8], end: usize, n: usize, from: usize) -> Walk
 }
 
 fn some_values(s: &[u8], end: usize, n: usize, at: usize) -> Walk
-    ensures { λ r. ⌜ r ≡ some 1 value .walk n (now (s .entry)) end at ⌝ }
+    ensures { λ r. ⌜ r ≡ oneOrMore 1 value .walk n (now (s .entry)) end at ⌝ }
 {
     if n == 0 {
         return zero_count(1, at);
@@ -80,7 +80,7 @@ pub fn past(s: &[u8], end: usize, n: usize, from: usize) -> Walk
 }
 
 fn some_dimensions(s: &[u8], end: usize, n: usize, at: usize) -> Walk
-    ensures { λ r. ⌜ r ≡ some 1 dimension .walk n (now (s .entry)) end at ⌝ }
+    ensures { λ r. ⌜ r ≡ oneOrMore 1 dimension .walk n (now (s .entry)) end at ⌝ }
 {
     if n == 0 {
         return zero_count(1, at);

@@ -13,17 +13,17 @@ use Rattle.eit.specs.Walked.{eit}
 use Rattle.ett.specs.Format.{ettFormat}
 use Rattle.ett.specs.Walked.{ett}
 
-unfoldable pub bodyOf : Kind → Filling One
-bodyOf Mgt = mgt
-bodyOf Tvct = tvct
-bodyOf Rrt = rrt
-bodyOf Eit = eit
-bodyOf Ett = ett
-
--- the same, with the body's record as its values
 abbrev pub bodyFormat : Kind → Filling One
 bodyFormat Mgt = mgtFormat
 bodyFormat Tvct = tvctFormat
 bodyFormat Rrt = rrtFormat
 bodyFormat Eit = eitFormat
 bodyFormat Ett = ettFormat
+
+-- the same walk, shut, which the code is held to (law `same-walk` of KindLaws)
+unfoldable pub bodyOf : Kind → Filling One
+bodyOf Mgt = mgt
+bodyOf Tvct = tvct
+bodyOf Rrt = rrt
+bodyOf Eit = eit
+bodyOf Ett = ett

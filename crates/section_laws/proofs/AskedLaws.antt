@@ -10,8 +10,7 @@ use Rattle.format.specs.Lawful.{Lies, Bytes}
 use Rattle.strings.specs.Strings.{StringFields, structure, text, stringsOf, asText}
 use Rattle.strings.specs.Places.{textAt}
 use Rattle.descriptor.specs.Descriptors.{descriptorsOf, contentAdvisory}
-use Rattle.rating.specs.Ratings.{TextPart}
-use Rattle.rating.specs.Values.{textBy, textPlace}
+use Rattle.rating.specs.Values.{TextPart, textBy, textPlace}
 use Rattle.rating.proofs.ThereLaws.{text-there}
 use Rattle.rating.proofs.TextLaws.{text-lies, text-none}
 use Rattle.rrt.specs.declared.table.Table.{Table as RrtTable}

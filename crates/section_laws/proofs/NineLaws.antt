@@ -5,7 +5,7 @@ use mathlib.Core.List.{List, [], _∷_}
 use mathlib.Core.Option.{Option, none, some}
 use native.Mathlib.Omega.{arith}
 use lib.ListN.{length}
-use Rattle.refusal.specs.Outcomes.{Outcome, refused, result, after}
+use Rattle.refusal.specs.Outcomes.{Outcome, refused, result, after, orNone}
 use Rattle.refusal.proofs.OutcomeLaws.{not-both}
 use Rattle.refusal.proofs.TestLaws.{either-way}
 use Rattle.kind.specs.declared.Kind.{Kind}
@@ -22,8 +22,7 @@ use Rattle.section.specs.Encoding.{Section}
 use Rattle.section.proofs.AcceptedLaws.{exactly}
 use Rattle.entry.specs.declared.Entry.{Entry}
 use Rattle.entry.specs.declared.Entry.the-variants.{Table, Channel, Dimension, Event}
-use Rattle.entry.specs.Entries.{kindOfEntry}
-use Rattle.entry.specs.Records.{recordOf, ofEntry}
+use Rattle.entry.specs.Records.{kindOfEntry, recordOf, ofEntry}
 use Rattle.reading.specs.Mgts as mgts
 use Rattle.reading.specs.Tvcts as tvcts
 use Rattle.reading.specs.Rrts as rrts
@@ -57,7 +56,7 @@ other-fair n h e = h cc
 none-fair : {A : Type 0} → Fair {A = A} (refused 13)
 none-fair = other-fair 13 (λ e. omega arith)
 
-or-fair : {A : Type 0} (x : Option A) → Fair (eits.orNone x)
+or-fair : {A : Type 0} (x : Option A) → Fair (orNone x)
 or-fair none = none-fair
 or-fair (some x) = result-fair x
 

@@ -2,7 +2,7 @@
 use Prim.Native.Nat.{ℕ}
 use mathlib.Core.Path.{_≡_, refl, ap, _∙_}
 use mathlib.Core.List.{List}
-use Rattle.refusal.specs.Outcomes.{result}
+use Rattle.refusal.specs.Outcomes.{result, orNone}
 use Rattle.kind.specs.declared.Kind.the-variants.{Eit}
 use Rattle.part.specs.declared.Part.{Part}
 use Rattle.part.specs.Parts.{endOf}
@@ -19,7 +19,7 @@ use Rattle.section.specs.Encoding.{encode}
 use Rattle.section.proofs.EncodingLaws.{encode-bytes}
 use Rattle.entry.specs.declared.Entry.the-variants.{Event}
 use Rattle.entry.proofs.RecordLaws.{spot-told}
-use Rattle.reading.specs.Eits.{ratingOf, descriptorOf, advisoryTextOf, orNone}
+use Rattle.reading.specs.Eits.{ratingOf, descriptorOf, advisoryTextOf}
 use Rattle.section_laws.specs.Told.{ratingTold, descriptorTold, placeTold}
 use Rattle.section_laws.specs.Accepted.{Reads}
 use Rattle.section_laws.proofs.TableLaws.{spot-refused}

@@ -16,8 +16,8 @@ use Rattle.rrt.proofs.ThereLaws as rrts
 use Rattle.eit.proofs.ThereLaws as eits
 use Rattle.section.specs.Encoding.{Section, encode, WellFormed}
 use Rattle.section.proofs.EncodingLaws.{encode-bytes, accepts}
-use Rattle.entry.specs.Entries.{kindOfEntry, firstEntry}
-use Rattle.entry.specs.Records.{recordOf, entriesOf, beginOf}
+use Rattle.entry.specs.Entries.{firstEntry}
+use Rattle.entry.specs.Records.{kindOfEntry, recordOf, entriesOf, beginOf}
 use Rattle.entry.proofs.RecordLaws.{first-there, count-there, entries-stand}
 use Rattle.rows.specs.declared.Row.{Row}
 use Rattle.rows.specs.declared.Row.the-variants.{Table, Channel, Dimension, Event}

@@ -13,8 +13,7 @@ use Rattle.kind.specs.declared.Kind.the-variants.{Eit}
 use Rattle.kind.specs.Kinds.{onlyOf}
 use Rattle.part.specs.declared.Part.{Part}
 use Rattle.strings.specs.Strings.{text, structure, stringsOf}
-use Rattle.text.specs.Strings.{toldFrom}
-use Rattle.text.specs.Values.{unitsOf, replacedOf}
+use Rattle.text.specs.Values.{toldFrom, unitsOf, replacedOf}
 use Rattle.text.proofs.SoundLaws.{Fair, units-fair}
 use Rattle.text.proofs.ValueLaws.{count-is, units-is}
 use Rattle.eit.specs.declared.event.Title.the-variants.{Text}
@@ -29,7 +28,7 @@ use Rattle.entry.specs.Entries.{spotIn}
 use Rattle.section_text.specs.declared.field.Which.the-variants.{Title}
 use Rattle.section_text.specs.Fields.{titleIn, fieldOf}
 use Rattle.section_text.specs.Texts.{textUnits, textReplaced}
-use Rattle.titles.specs.Titles.{TitleTold, refusedTitle, textTold, toldOf, titleTold}
+use Rattle.titles.specs.Titles.{refusedTitle, textTold, toldOf, titleTold}
 use Rattle.section_laws.specs.Titled.{sortTold, titleRecord}
 
 -- ---- the numbers of refused texts

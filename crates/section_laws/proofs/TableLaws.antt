@@ -26,8 +26,8 @@ use Rattle.section.specs.Encoding.{encode}
 use Rattle.section.proofs.EncodingLaws.{encode-bytes, body-lies, body-ends, accepts}
 use Rattle.entry.specs.declared.Entry.{Entry}
 use Rattle.entry.specs.declared.Entry.the-variants.{Table, Channel, Dimension, Event}
-use Rattle.entry.specs.Entries.{kindOfEntry, spotOf, valueSpot}
-use Rattle.entry.specs.Records.{ofValue}
+use Rattle.entry.specs.Entries.{spotOf, valueSpot}
+use Rattle.entry.specs.Records.{kindOfEntry, ofValue}
 use Rattle.entry.proofs.RecordLaws.{spot-told, rest-there, value-told}
 use Rattle.reading.specs.Mgts as read-mgts
 use Rattle.reading.specs.Tvcts as read-tvcts

@@ -27,8 +27,8 @@ use Rattle.section.specs.Encoding.{Section, encode, WellFormed, headerOf}
 use Rattle.section.proofs.EncodingLaws.{accepts, encode-bytes, body-lies, body-ends}
 use Rattle.entry.specs.declared.Entry.{Entry}
 use Rattle.entry.specs.declared.Entry.the-variants.{Event, Dimension}
-use Rattle.entry.specs.Entries.{kindOfEntry, spotIn, valueSpot}
-use Rattle.entry.specs.Records.{recordOf, entriesOf, beginOf, ofEntry, ofValue}
+use Rattle.entry.specs.Entries.{spotIn, valueSpot}
+use Rattle.entry.specs.Records.{kindOfEntry, recordOf, entriesOf, beginOf, ofEntry, ofValue}
 use Rattle.entry.proofs.RecordLaws.{spot-in-told, value-told}
 use Rattle.section_text.specs.declared.field.Which.{Which}
 use Rattle.section_text.specs.declared.field.Which.the-variants.{Title, Advisory, Extended, RegionName, DimensionName, ShortText, LongText}

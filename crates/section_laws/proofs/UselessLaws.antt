@@ -21,12 +21,11 @@ use Rattle.row.specs.Rows.{partRow}
 use Rattle.eit.specs.Values.{titleFor}
 use Rattle.channel.specs.Fields.{nameRow, tuningRow, serviceRow, numbersRow}
 use Rattle.text.specs.Segments.{wayOf, unitsBy}
-use Rattle.text.specs.Strings.{joined}
-use Rattle.text.specs.Values.{headingOf, unitsOf, ofString, segmentsFor}
+use Rattle.text.specs.Values.{joined, headingOf, unitsOf, ofString, segmentsFor}
 use Rattle.section.specs.declared.header.Header.{Header}
 use Rattle.section.specs.Encoding.{Section, encode, headerOf}
 use Rattle.section.proofs.EncodingLaws.{encode-bytes}
-use Rattle.entry.specs.Entries.{kindOfEntry}
+use Rattle.entry.specs.Records.{kindOfEntry}
 use Rattle.rows.specs.declared.Row.{Row}
 use Rattle.rows.specs.declared.Row.the-variants as row
 use Rattle.rows.specs.Rows.{entryFor, rowWidth, roomForRows}

@@ -12,7 +12,7 @@ use Rattle.kind.specs.declared.Kind.the-variants.{Mgt, Tvct, Rrt, Eit, Ett}
 use Rattle.kind.specs.Kinds.{onlyOf}
 use Rattle.format.specs.Lawful.{Bytes}
 use Rattle.strings.specs.Strings.{text, StringFields, stringsOf}
-use Rattle.rating.specs.Ratings.{Rated, Descriptor, TextPart}
+use Rattle.rating.specs.Values.{Rated, Descriptor, TextPart}
 use Rattle.mgt.specs.declared.table.Table.{Table as MgtTable}
 use Rattle.mgt.specs.declared.defined.Defined.{Defined}
 use Rattle.channel.specs.declared.channel.Channel.{Channel}
@@ -28,7 +28,7 @@ use Rattle.text.specs.Values.{headingOf, unitsOf}
 use Rattle.section.specs.declared.header.Header.{Header}
 use Rattle.section.specs.Sections.{sectionBy}
 use Rattle.section.specs.Encoding.{Section, encode, WellFormed, headerOf}
-use Rattle.entry.specs.Entries.{kindOfEntry}
+use Rattle.entry.specs.Records.{kindOfEntry}
 use Rattle.rows.specs.declared.Row.{Row}
 use Rattle.rows.specs.Rows.{entryFor}
 use Rattle.section_text.specs.declared.field.Which.{Which}
@@ -72,7 +72,7 @@ pub record ReadsText {A : Type 0} (reader : List ℕ → Outcome A) (told : List
   pub tells : (t : text .Val) → text .Ok (record {}) t → reader (text .enc t) ≡ told (stringsOf t)
   pub refuses : (f : List ℕ) → Bytes f → ((t : text .Val) → text .Ok (record {}) t → f ≡ text .enc t → ⊥) → reader f ≡ refused 9
 
--- ---- what is asked of sections and of texts: entry i, value j, string k; a region and a dimension; the room of a lent list, or the list itself as
+-- ---- what is asked of sections and of texts: entry i, value j, string or descriptor k; a region and a dimension; the room of a lent list, or the list itself as
 -- it was before (`before`); the section or the field's bytes come last. `place` is where an advisory's text stands. Ours.antt says which definition is which
 pub record Library : Type 0 where
   pub judge : Kind → List ℕ → Outcome Header

@@ -4,14 +4,13 @@ use mathlib.Core.List.{List, [], _∷_, _++_}
 use mathlib.Core.Option.{Option, none, some}
 use lib.ListN.{length}
 use lib.Seq.{sets}
-use Rattle.refusal.specs.Outcomes.{Outcome, refused, result, after}
+use Rattle.refusal.specs.Outcomes.{Outcome, refused, result, after, orNone}
 use Rattle.kind.specs.declared.Kind.the-variants.{Mgt, Tvct, Rrt, Eit, Ett}
 use Rattle.kind.specs.Kinds.{limitsOf}
 use Rattle.format.specs.Listed.{allOf}
 use Rattle.strings.specs.Strings.{text, StringFields, stringsOf, asText}
 use Rattle.descriptor.specs.Descriptors.{descriptorsOf, contentAdvisory}
-use Rattle.rating.specs.Ratings.{Rated, Descriptor, TextPart}
-use Rattle.rating.specs.Values.{ratedBy, textBy, textPlace, descriptorFor}
+use Rattle.rating.specs.Values.{Rated, Descriptor, TextPart, ratedBy, textBy, textPlace, descriptorFor}
 use Rattle.mgt.specs.declared.table.Table.{Table as MgtTable}
 use Rattle.mgt.specs.declared.defined.Defined.{Defined}
 use Rattle.mgt.specs.Values as mgts
@@ -31,9 +30,7 @@ use Rattle.ett.specs.declared.table.Table.{Table as EttTable}
 use Rattle.ett.specs.Values as etts
 use Rattle.section.specs.Encoding.{Section}
 use Rattle.entry.specs.declared.Entry.the-variants.{Table, Channel, Dimension, Event}
-use Rattle.entry.specs.Entries.{kindOfEntry}
-use Rattle.entry.specs.Records.{recordOf, entriesOf, beginOf, ofEntry, ofValue}
-use Rattle.reading.specs.Eits.{orNone}
+use Rattle.entry.specs.Records.{kindOfEntry, recordOf, entriesOf, beginOf, ofEntry, ofValue}
 use Rattle.rows.specs.declared.Row.{Row}
 use Rattle.rows.specs.declared.Row.the-variants as row
 use Rattle.rows.specs.Rows.{entryFor, rowWidth, roomForRows}

@@ -16,7 +16,8 @@ use Rattle.format.specs.Formats.{walks, walksAll}
 use Rattle.format.proofs.FieldLaws.{fields-end}
 use Rattle.strings.specs.Places as places
 use Rattle.descriptor.specs.Descriptors.{region, advisory, content, descriptor, descriptors, contentAdvisory}
-use Rattle.rating.specs.Ratings.{TextPart, descriptorSize, ratedSize, regionSize, regionIn, regionTextAt, textIn}
+use Rattle.rating.specs.Ratings.{descriptorSize, ratedSize, regionSize, regionIn, regionTextAt, textIn}
+use Rattle.rating.specs.Values.{TextPart}
 use Rattle.rating.proofs.DescriptorLaws.{two, Sound, sound-first}
 use Rattle.rating.proofs.AnswerLaws.{first-left}
 use Rattle.rating.proofs.MatchLaws.{text-behind, region-taken}

@@ -24,7 +24,7 @@ use Rattle.format.specs.Formats.{walks, walksAll}
 use Rattle.part.specs.declared.Part.{Part}
 use Rattle.part.specs.Parts.{bytesIn}
 use Rattle.strings.specs.Strings.{text}
-use Rattle.rating.specs.Ratings.{TextPart}
+use Rattle.rating.specs.Values.{TextPart}
 use Rattle.rrt.specs.Walked.{value}
 use Rattle.rrt.specs.Fields as rrts
 use Rattle.rrt.proofs.WalkLaws.{region-walked, name-walked, value-parts}
@@ -41,7 +41,8 @@ use Rattle.section.specs.Sections.{sectionBy}
 use Rattle.section.proofs.SectionLaws.{section-sound}
 use Rattle.entry.specs.declared.Entry.{Entry}
 use Rattle.entry.specs.declared.Entry.the-variants.{Event, Dimension}
-use Rattle.entry.specs.Entries.{kindOfEntry, formatOf, entryCount, spotIn, spotOf, valueSpot}
+use Rattle.entry.specs.Entries.{formatOf, entryCount, spotIn, spotOf, valueSpot}
+use Rattle.entry.specs.Records.{kindOfEntry}
 use Rattle.entry.proofs.EntryLaws.{entry-found, entry-stands}
 use Rattle.entry.proofs.ValueLaws.{value-found, value-stands}
 use Rattle.text.specs.Strings.{stringCount, stringAt, stringUnits, stringHeading}

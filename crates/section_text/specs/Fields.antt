@@ -9,7 +9,7 @@ use Rattle.kind.specs.declared.Kind.{Kind}
 use Rattle.kind.specs.declared.Kind.the-variants.{Rrt, Eit, Ett}
 use Rattle.kind.specs.Kinds.{limitsOf, onlyOf}
 use Rattle.part.specs.declared.Part.{Part}
-use Rattle.rating.specs.Ratings.{TextPart}
+use Rattle.rating.specs.Values.{TextPart}
 use Rattle.rrt.specs.Fields as rrts
 use Rattle.eit.specs.declared.event.Title as titles
 use Rattle.eit.specs.declared.event.Title.the-variants as sorts
@@ -36,7 +36,8 @@ kindFor (ShortText i j) = Rrt
 kindFor (LongText i j) = Rrt
 
 -- ---- where the texts of a section that was judged stand
--- not the place of such a title, but a field of which only strings are asked: none and no strings have none, so that every question is answered by 13
+-- the field of a title, of which only strings are asked: none and no strings have no string, so an empty field stands for both, and every question is
+-- answered by 13
 abbrev pub titleField : titles.Title → Part
 titleField sorts.None = record { start = 0; length = 0 }
 titleField sorts.NoStrings = record { start = 0; length = 0 }

@@ -110,7 +110,7 @@ pub record ClosingKeeps (s t : Shelf) (w : ℕ) : Type 0 where
 abbrev pub ClosingStays : Type 0
 ClosingStays = (s : Shelf) (area : ℕ) (a : Asked) → closed s area a .outcome ≡ result tt → ClosingKeeps s (closed s area a .shelf) (watchOf s a)
 
--- the section's place is i, and its bytes stand there
+-- of a section of watch w that takes place i
 pub record DeliveryKeeps (s t : Shelf) (w i : ℕ) (before after b : List ℕ) : Type 0 where
   pub others : Others s t w
   pub inside : w < s .records

@@ -1,7 +1,7 @@
 -- The numbers of a rating, of a descriptor and of an advisory's text. SCOPE 3.3, 3.4 and 6.
 use Prim.Native.Nat.{ℕ}
 use mathlib.Core.List.{List, [], _∷_}
-use Rattle.rating.specs.Ratings.{Rated, noAdvisory, regionAbsent, dimensionAbsent, value, Descriptor, TextPart}
+use Rattle.rating.specs.Values.{Rated, noAdvisory, regionAbsent, dimensionAbsent, value, Descriptor, TextPart}
 use Rattle.refusal.specs.Outputs.{noValue}
 
 -- which answer it is, and the value; an answer without one has no value

@@ -7,7 +7,7 @@ use lib.ListN.{length}
 use Rattle.refusal.specs.Outcomes.{Outcome, refused, result, after}
 use Rattle.refusal.specs.Outputs.{counted}
 use Rattle.refusal.proofs.OutcomeLaws.{same-result, not-both}
-use Rattle.refusal.proofs.OutputLaws.{from-number, counted-result}
+use Rattle.refusal.proofs.OutputLaws.{from-number}
 use Rattle.bytes_at.specs.Fields.{byteAt}
 use Rattle.format.specs.Lawful.{Bytes}
 use Rattle.format.specs.Formats.{walks}
@@ -17,7 +17,8 @@ use Rattle.text.specs.declared.segments.Way.{Way}
 use Rattle.text.specs.Answers.{amountOf}
 use Rattle.text.specs.Segments.{wayOf, replacedBy, segmentReplaced}
 use Rattle.bytes_at.specs.Walks.{standing}
-use Rattle.text.specs.Strings.{stringAt, toldFrom, joinedReplaced, stringReplaced}
+use Rattle.text.specs.Strings.{stringAt, joinedReplaced, stringReplaced}
+use Rattle.text.specs.Values.{toldFrom}
 
 pub amount-result : (p : ℕ) (us : List ℕ) → amountOf p (result us) ≡ result (record { units = length us; replaced = p })
 unfolding amountOf after

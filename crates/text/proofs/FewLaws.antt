@@ -28,7 +28,8 @@ use Rattle.strings.specs.Strings.{segment, string}
 use Rattle.text.specs.declared.segments.Way.{Way}
 use Rattle.text.specs.declared.segments.Way.the-variants.{Bytes, Utf16, Titles, Descriptions, Unread}
 use Rattle.text.specs.Segments.{utf16Units, unitsOrRefusal, unitsBy, segmentUnits, pairs}
-use Rattle.text.specs.Strings.{stringCount, stringAt, joined, joinedUnits, stringUnits}
+use Rattle.text.specs.Strings.{stringCount, stringAt, joinedUnits, stringUnits}
+use Rattle.text.specs.Values.{joined}
 use Rattle.text.proofs.UnitLaws.{pairs-length, judged-refusal}
 
 -- at most m units, or a refusal of a text

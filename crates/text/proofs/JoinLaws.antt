@@ -25,7 +25,8 @@ use Rattle.text.specs.declared.answer.Units.{Units}
 use Rattle.text.specs.declared.answer.Units.the-variants as amounts
 use Rattle.text.specs.Answers.{amountOf}
 use Rattle.text.specs.Segments.{segmentUnits}
-use Rattle.text.specs.Strings.{joined, joinedUnits}
+use Rattle.text.specs.Strings.{joinedUnits}
+use Rattle.text.specs.Values.{joined}
 use Rattle.refusal.specs.Outputs.{counted}
 use Rattle.text.specs.Inner.{plainUnits, joinedOf, joinedPlain, storedUnits, Wrote, WroteAll}
 use Rattle.refusal.proofs.OutputLaws.{from-number, from-refusal}

@@ -34,7 +34,7 @@ use Rattle.text.proofs.UnitLaws.{wrote-units, wrote-refused}
 use Rattle.text.proofs.AmountLaws.{amount-refused, from-amount}
 use Rattle.text.proofs.FewLaws.{Few, segment-few}
 use Rattle.text.proofs.JoinLaws.{Going, going-refused, going-done, going-next, joined-refused}
-use Rattle.text.specs.Strings.{joined}
+use Rattle.text.specs.Values.{joined}
 
 -- ---- one segment
 pub once-units : (x : Outcome (List ℕ)) (l : List ℕ) (n k : ℕ) (us e : List ℕ) → x ≡ result us → k ≡ length us → e ≡ sets l n us

@@ -18,8 +18,8 @@ use Rattle.format.specs.Laws.OfValues.{bytes-length}
 use Rattle.format.specs.Laws.OfTold.{told-there, last-tells}
 use Rattle.strings.specs.Strings.{SegmentFields, StringFields, segment, string}
 use Rattle.text.specs.Segments.{wayOf, segmentUnits, replacedBy, segmentReplaced}
-use Rattle.text.specs.Strings.{headingBefore, joined, joinedUnits, joinedReplaced}
-use Rattle.text.specs.Values.{segmentFor, segmentsFor, replacedFor, headingFor, ofString}
+use Rattle.text.specs.Strings.{headingBefore, joinedUnits, joinedReplaced}
+use Rattle.text.specs.Values.{joined, segmentFor, segmentsFor, replacedFor, headingFor, ofString}
 use Rattle.text.proofs.UnitLaws.{units-at}
 use Rattle.text.proofs.AmountLaws.{told-result}
 use Rattle.bytes_at.proofs.WalkLaws.{standing-to}

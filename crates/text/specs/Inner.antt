@@ -18,7 +18,7 @@ use Rattle.text.specs.declared.segments.Way.the-variants.{Bytes, Utf16, 
 use Rattle.text.specs.Answers.{unitsOutcome, numberOutcome, amountOf}
 use Rattle.text.specs.Segments.{wayOf, pairs, unitsBy}
 use Rattle.bytes_at.specs.Walks.{standing}
-use Rattle.text.specs.Strings.{joined}
+use Rattle.text.specs.Values.{joined}
 use Rattle.refusal.specs.Outputs.{counted}
 
 -- plain bytes as units: two a unit, or one

@@ -1,18 +1,21 @@
 -- SCOPE 4.3 to 4.5: what is answered for a text, by the strings and segments of its value.
 use Prim.Native.Nat.{ℕ, zero, suc, _+_}
-use mathlib.Core.List.{List, [], _∷_}
+use mathlib.Core.List.{List, [], _∷_, _++_}
 use lib.ListN.{length}
-use Rattle.refusal.specs.Outcomes.{Outcome, refused, result}
+use Rattle.refusal.specs.Outcomes.{Outcome, refused, result, after}
 use Rattle.strings.specs.Strings.{SegmentFields, StringFields}
 use Rattle.text.specs.declared.answer.Heading.{Heading}
 use Rattle.text.specs.Segments.{wayOf, unitsBy, replacedBy}
-use Rattle.text.specs.Strings.{joined, toldFrom}
 
 -- the units of a segment, by its compression and mode
 abbrev pub segmentFor : SegmentFields → Outcome (List ℕ)
 segmentFor g = unitsBy (wayOf (g .compression) (g .mode)) (g .bytes)
 
--- of several, joined: the first that is refused decides
+-- one text after another: the first that is refused decides
+unfoldable pub joined : Outcome (List ℕ) → Outcome (List ℕ) → Outcome (List ℕ)
+joined x y = after x (λ us. after y (λ vs. result (us ++ vs)))
+
+-- of several, joined
 unfoldable pub segmentsFor : List SegmentFields → Outcome (List ℕ)
 segmentsFor [] = result []
 segmentsFor (g ∷ gs) = joined (segmentFor g) (segmentsFor gs)
@@ -38,6 +41,11 @@ headingOf ss k = ofString (λ x. result (headingFor x)) ss k
 
 abbrev pub unitsOf : List StringFields → ℕ → Outcome (List ℕ)
 unitsOf ss k = ofString (λ x. segmentsFor (x .segments)) ss k
+
+-- a number that is told of what was found; 0 where nothing was
+unfoldable pub toldFrom : {A : Type 0} → Outcome A → (A → ℕ) → ℕ
+toldFrom (refused n) k = 0
+toldFrom (result a) k = k a
 
 -- how many segments of string k are replaced; 0 where there is none
 abbrev pub replacedOf : List StringFields → ℕ → ℕ

@@ -7,7 +7,7 @@ use Rattle.format.specs.Told.{counted8, sized10}
 use Rattle.descriptor.specs.Descriptors.{descriptors, noTag}
 use Rattle.channel.specs.Format.{ChannelFields, channelFormat}
 
--- the channels; r 6, length 10, descriptors
+-- count 8, and the channels; r 6, length 10, descriptors
 pub record TvctFields : Type 0 where
   pub channels : List ChannelFields
   pub r : ℕ

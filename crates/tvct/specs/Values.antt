@@ -8,11 +8,10 @@ use Rattle.channel.specs.Format.{channelFormat}
 use Rattle.channel.specs.Values.{OnesChannel}
 use Rattle.tvct.specs.declared.table.Table.{Table}
 use Rattle.tvct.specs.Format.{TvctFields}
-use Rattle.tvct.specs.Fields.{firstAt}
 
 -- where all channels are passed
 abbrev pub channelsEnd : ℕ → TvctFields → ℕ
-channelsEnd at b = firstAt at + length (encs (channelFormat .enc) (b .channels))
+channelsEnd at b = at + 1 + length (encs (channelFormat .enc) (b .channels))
 
 -- the table's own fields: the descriptors stand behind the channels, after a length of two bytes
 abbrev pub fieldsFor : ℕ → ℕ → TvctFields → Table

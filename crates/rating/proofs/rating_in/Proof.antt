@@ -1,6 +1,7 @@
 -- `rating_in` meets its contract: at every turn, what is found from here on is the whole answer.
 use Rattle.rating.proofs.FirstLaws.{stands, dimensions-fit, first-none, first-past, first-here, first-next}
-use Rattle.rating.specs.Ratings.{noAdvisory, regionAbsent, dimensionAbsent, value, descriptorSize, regionSize, firstMatch, ratedByRegion, ratedByAdvisory, ratingIn}
+use Rattle.rating.specs.Ratings.{descriptorSize, regionSize, firstMatch, ratedByRegion, ratedByAdvisory, ratingIn}
+use Rattle.rating.specs.Values.{noAdvisory, regionAbsent, dimensionAbsent, value}
 use Rattle.descriptor.specs.Descriptors.{contentAdvisory}
 use Rattle.bytes_at.specs.Fields.{byteAt}
 use native.Mathlib.Omega.{arith}

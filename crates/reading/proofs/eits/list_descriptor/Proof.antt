@@ -2,8 +2,8 @@
 use mathlib.Core.Path.{_∙_, ap, sym}
 use borrow.Author.Needs.{needs}
 use borrow.Author.Tests.{not-false, not-true}
-use Rattle.refusal.specs.Outcomes.{orRefuse}
-use Rattle.reading.specs.Eits.{ifFilled, orNone}
+use Rattle.refusal.specs.Outcomes.{orRefuse, orNone}
+use Rattle.reading.specs.Eits.{ifFilled}
 use Rattle.reading.proofs.eits.list_descriptor.Statement.{statement}
 use Rattle.reading.proofs.eits.list_descriptor.Tie as tie
 
