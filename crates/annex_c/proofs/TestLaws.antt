@@ -10,30 +10,14 @@ use lib.Dec.{T, leb, eqb}
 use lib.ListN.{length, take}
 use lib.Seq.{getD-take}
 use borrow.Author.Tests.{eqb-true, ltb-true}
-use Rattle.annex_c.specs.Codes.{Code, code, Bits, more, Reading, symbol, early, begins, firstCode, codesOf, bothHold, escapeAlone, meant, printed}
+use Rattle.logic.proofs.LoopLaws.{and-left, and-right, from-equal}
+use Rattle.annex_c.specs.Codes.{Code, code, Reading, symbol, early, begins, firstCode, codesOf, escapeAlone, meant, printed}
+use Rattle.annex_c.specs.Meaning.{Bits, more, SoundReading, Means}
 use Rattle.annex_c.specs.Tree.{tree, nodes, child, walk, walked}
-use Rattle.annex_c.specs.Test.{goOn, by, endsFor, agrees, equal, pair155, priorAgrees, priorsAgree, tableAgrees}
-use Rattle.annex_c.specs.Meaning.{SoundReading, Means}
+use Rattle.annex_c.specs.Test.{goOn, by, endsFor, agrees, pair155, priorAgrees, priorsAgree, tableAgrees}
 
 untrue : false ≡ true → ⊥
 untrue e = subst T (sym e) tt
-
-both-left : (a b : Bool) → bothHold a b ≡ true → a ≡ true
-unfolding bothHold
-both-left true b e = refl
-both-left false b e = e
-
-both-right : (a b : Bool) → bothHold a b ≡ true → b ≡ true
-unfolding bothHold
-both-right true b e = e
-both-right false b e = absurd (untrue e)
-
-equal-true : (a b : Bool) → equal a b ≡ true → a ≡ b
-unfolding equal
-equal-true true true e = refl
-equal-true true false e = absurd (untrue e)
-equal-true false true e = absurd (untrue e)
-equal-true false false e = refl
 
 -- rows that all go on by a bit: with no bits none is read, and with bits those are read that go on by the first
 first-none : (rows : List Code) → goOn rows ≡ true → firstCode rows [] ≡ early
@@ -58,7 +42,7 @@ first-by (code p s (c ∷ cs) ∷ rows) b bs e = first-row p s cs bs (by b rows)
 first-ends : (s : ℕ) (rows : List Code) (bs : List ℕ) → endsFor s rows ≡ true → (symbol s bs ≡ firstCode rows bs) × (s < 128)
 unfolding endsFor firstCode begins
 first-ends s [] bs e = absurd (untrue e)
-first-ends s (code p r [] ∷ []) bs e = (ap (λ (x : ℕ). symbol x bs) (sym (eqb-true r s (both-left _ _ e))), ltb-true s 128 (both-right _ _ e))
+first-ends s (code p r [] ∷ []) bs e = (ap (λ (x : ℕ). symbol x bs) (sym (eqb-true r s (and-left _ _ e))), ltb-true s 128 (and-right _ _ e))
 first-ends s (code p r [] ∷ row ∷ rows) bs e = absurd (untrue e)
 first-ends s (code p r (c ∷ cs) ∷ rows) bs e = absurd (untrue e)
 
@@ -122,18 +106,18 @@ none-right k m u n rows g = record { same = sym (first-none rows g); sound = tt;
 node-right : (k m : ℕ) (u : List ℕ) (n : ℕ) (rows : List Code) (bs : List ℕ) → agrees k u m n rows ≡ true → Bits bs → Right k m u n rows bs
 unfolding agrees
 node-right zero m u n rows bs e h = absurd (untrue e)
-node-right (suc k) m u n rows [] e h = none-right k m u n rows (both-left _ _ (both-right _ _ e))
+node-right (suc k) m u n rows [] e h = none-right k m u n rows (and-left _ _ (and-right _ _ e))
 node-right (suc k) m u n rows (b ∷ bs) e (more l h) =
-    let i = ltb-true n m (both-left _ _ e) in
-    let g = both-left _ _ (both-right _ _ e) in
-    let c = both-right _ _ (both-right _ _ e) in
+    let i = ltb-true n m (and-left _ _ e) in
+    let g = and-left _ _ (and-right _ _ e) in
+    let c = and-right _ _ (and-right _ _ e) in
     ⊎-elim
     (λ (q : b ≡ 0). rw q (at-node k m u n 0 rows bs i (omega arith) g
     (at-child k m u (child u n 0) (by 0 rows) bs h (λ a. node-right k m u (child u n 0) (by 0 rows) bs a h) (leb 128 (child u n 0))
-    (both-left _ _ c))))
+    (and-left _ _ c))))
     (λ (q : b ≡ 1). rw q (at-node k m u n 1 rows bs i (omega arith) g
     (at-child k m u (child u n 1) (by 1 rows) bs h (λ a. node-right k m u (child u n 1) (by 1 rows) bs a h) (leb 128 (child u n 1))
-    (both-right _ _ c))))
+    (and-right _ _ c))))
     (bit b l)
 
 module _ (k : ℕ) (t : List ℕ) (list : List Code) where
@@ -144,15 +128,15 @@ module _ (k : ℕ) (t : List ℕ) (list : List Code) where
   prior-right : (p : ℕ) → priorAgrees k t list p ≡ true → PriorRight p
   unfolding priorAgrees
   prior-right p a =
-      (equal-true _ _ (both-left _ _ a), λ bs h. node-right k (nodes t p) (tree t p) 0 (meant p (codesOf list p)) bs (both-right _ _ a) h)
+      (from-equal _ _ (and-left _ _ a), λ bs h. node-right k (nodes t p) (tree t p) 0 (meant p (codesOf list p)) bs (and-right _ _ a) h)
 
   priors-right : (n p : ℕ) → priorsAgree k t list n ≡ true → p < n → PriorRight p
   unfolding priorsAgree
   priors-right zero p a l = absurd (not-suc-le-zero l)
   priors-right (suc n) p a l =
       ⊎-elim
-      (λ (q : p ≡ n). rw q (prior-right n (both-left _ _ a)))
-      (λ below. priors-right n p (both-right _ _ a) below)
+      (λ (q : p ≡ n). rw q (prior-right n (and-left _ _ a)))
+      (λ below. priors-right n p (and-right _ _ a) below)
       (eq-or-lt-of-le (le-of-suc-le-suc l))
 
   pub means : tableAgrees k t list ≡ true → Means t k list

@@ -1,18 +1,14 @@
 -- SCOPE 4.9 and 4.11: the codes' meaning is the printed list. This page says what a list of rows (prior symbol, symbol, code)
 -- makes of bits; the lists themselves are Printed1 and Printed2.
-use Prim.Native.Nat.{ℕ, _<_}
+use Prim.Native.Nat.{ℕ}
 use mathlib.Core.List.{List, [], _∷_}
 use mathlib.Core.Bool.{Bool, true, false}
 use lib.Dec.{eqb}
+use Rattle.logic.specs.Loops.{_&_}
 
 -- a printed row: the prior symbol, the symbol that follows it, its code
 pub data Code : Type 0 where
   code : ℕ → ℕ → List ℕ → Code
-
--- a list of bits
-pub data Bits : List ℕ → Type 0 where
-  none : Bits []
-  more : {b : ℕ} {bs : List ℕ} → b < 2 → Bits bs → Bits (b ∷ bs)
 
 -- what reading one coded symbol finds: the symbol and the bits that are left, or bits that end early
 pub data Reading : Type 0 where
@@ -35,15 +31,11 @@ unfoldable pub codesOf : List Code → ℕ → List Code
 codesOf [] p = []
 codesOf (code q s c ∷ rows) p = elim (eqb q p) [ true ↦ code q s c ∷ codesOf rows p | false ↦ codesOf rows p ]
 
-unfoldable pub bothHold : Bool → Bool → Bool
-bothHold true b = b
-bothHold false b = false
-
 -- only the escape is printed, with the code 1
 unfoldable pub escapeAlone : List Code → Bool
 escapeAlone [] = false
 escapeAlone (code p s [] ∷ rows) = false
-escapeAlone (code p s (c ∷ []) ∷ []) = bothHold (eqb s 27) (eqb c 1)
+escapeAlone (code p s (c ∷ []) ∷ []) = eqb s 27 & eqb c 1
 escapeAlone (code p s (c ∷ []) ∷ row ∷ rows) = false
 escapeAlone (code p s (c ∷ d ∷ cs) ∷ rows) = false
 

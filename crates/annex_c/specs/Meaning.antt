@@ -1,11 +1,16 @@
 -- SCOPE 4.9 to 4.11: what is shown of a decode table and its printed list.
 use mathlib.Core.Path.{_≡_}
 use Prim.Native.Nat.{ℕ, _*_, _<_, _≤_}
-use mathlib.Core.List.{List}
+use mathlib.Core.List.{List, [], _∷_}
 use lib.ListN.{length, take}
-use Rattle.annex_c.specs.Codes.{Code, Bits, Reading, symbol, early, codesOf, escapeAlone, printed}
+use Rattle.annex_c.specs.Codes.{Code, Reading, symbol, early, codesOf, escapeAlone, printed}
 use Rattle.annex_c.specs.Tree.{tree, nodes, walk, walked}
 use Rattle.annex_c.specs.Test.{pair155}
+
+-- a list of bits
+pub data Bits : List ℕ → Type 0 where
+  none : Bits []
+  more : {b : ℕ} {bs : List ℕ} → b < 2 → Bits bs → Bits (b ∷ bs)
 
 -- a symbol that was read is below 128, and what is left are bits
 abbrev pub SoundReading : Reading → Type 0

@@ -14,7 +14,7 @@ ghost use Prim.Native.Nat.{_≤_};
 ghost use lib.ListN.{length};
 ghost use Rattle.checksum.specs.Register.{register};
 ghost use Rattle.kind.specs.Kinds.{kindOf};
-ghost use Rattle.section.specs.Headers.{headOutcome};
+ghost use Rattle.section.specs.Answers.{headOutcome};
 ghost use Rattle.section.specs.Sections.{sectionBy};
 ghost use Rattle.bench_calls.specs.Told.{told};
 

@@ -12,7 +12,8 @@ use Rattle.bytes_at.specs.declared.Walk.the-variants.{To, Bad}
 use Rattle.logic.specs.Choices.{pick}
 use Rattle.refusal.specs.Outcomes.{refused, result}
 use Rattle.refusal.proofs.OutcomeLaws.{not-both}
-use Rattle.bytes_at.specs.Walks.{skipTo, bitsTo, then, many, ends, standing, Stands}
+use Rattle.bytes_at.specs.Walks.{skipTo, bitsTo, then, many, ends, standing}
+use Rattle.bytes_at.specs.Inner.{Stands}
 
 -- ---- walks that stand, and walks that do not
 pub to-is : (a b : ℕ) → To a ≡ To b → b ≡ a

@@ -1,3 +1,4 @@
 pub mod Fields
 pub mod Bits
 pub mod Walks
+pub mod Inner

@@ -1,7 +1,6 @@
 -- SCOPE 6, number 9: how a walk goes through a container. A walk is given the container's end and the place where it
 -- starts; it answers the place where it then stands (To), or the offset of the field to blame (Bad).
 use Prim.Native.Nat.{ℕ, zero, suc, _+_, _-_, _*_, _/_}
-use mathlib.Core.Path.{_≡_}
 use mathlib.Core.List.{List, [], _∷_}
 use lib.Dec.{eqb, leb}
 use Rattle.refusal.specs.Outcomes.{Outcome, refused, result}
@@ -42,7 +41,3 @@ ends end at = pick (eqb at end) (To at) (Bad at)
 unfoldable pub standing : Walk → Outcome ℕ
 standing (To a) = result a
 standing (Bad x) = refused 9
-
--- a walk that stands
-abbrev pub Stands : Walk → Type 0
-Stands w = (e : ℕ) × (w ≡ To e)

@@ -7,8 +7,8 @@ use Rattle.bytes_at.specs.declared.Walk.the-variants.{To}
 use Rattle.bytes_at.proofs.WalkLaws.{then-inv}
 use Rattle.format.specs.Formats.{walks}
 use Rattle.format.proofs.FieldLaws.{fields-end}
-use Rattle.descriptor.specs.Descriptors.{list10, noTag}
-use Rattle.descriptor.specs.Places.{listEnd}
+use Rattle.descriptor.specs.Descriptors.{noTag}
+use Rattle.descriptor.specs.Places.{list10, listEnd}
 use Rattle.descriptor.proofs.ListLaws.{ListPassed, list10-passed}
 use Rattle.channel.specs.Walked.{channel}
 use Rattle.channel.specs.Fields.{channelEnd}

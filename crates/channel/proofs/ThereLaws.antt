@@ -4,7 +4,8 @@ use mathlib.Core.Path.{_≡_, refl, sym, ap}
 use mathlib.Core.List.{List, _++_}
 use native.Mathlib.Omega.{arith}
 use lib.ListN.{length}
-use Rattle.format.specs.Lawful.{Lies, Bytes}
+use Rattle.format.specs.Lawful.{Lies}
+use Rattle.format.specs.Repeats.{Bytes}
 use Rattle.format.specs.Laws.OfBytes.{lies-at, lies-split}
 use Rattle.format.specs.Laws.OfValues.{bytes-length}
 use Rattle.format.specs.Values.{number, bytesOf, valsAt, behind}

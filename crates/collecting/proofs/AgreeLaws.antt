@@ -10,7 +10,7 @@ use Rattle.lent_laws.proofs.StepLaws.{lent-step, refused-keeps}
 use Rattle.collecting.proofs.FirstHalf.{first-half}
 use Rattle.collecting.proofs.SecondHalf.{from-empty, second-half}
 use Rattle.collecting.proofs.PromisedLaws.{places-promised}
-use Rattle.collecting.specs.Collecting.{AgreeingCollect, Agrees, Allowed, Build, Complete, Exchange, Heard, LentHolds, NoneRefused, StartsEmpty, Stretch, Table, ToldBy, stateAfter, and-then, end, fetch, heard, lentBuild, none-left, ours, quotasClosed, quotasOpened, recorded, status, then}
+use Rattle.collecting.specs.Collecting.{AgreeingCollect, Agrees, Allowed, Build, Complete, Exchange, Heard, LentHolds, NoneRefused, StartsEmpty, Stretch, Table, ToldBy, stateAfter, and-then, end, fetch, heard, lentBuild, none-left, ours, quotasClosed, quotasOpened, recorded, status, goes-on}
 
 module _ (B : Build) (g : Agrees B) where
   after-is : (x : B .Memory) (ts : List Turn) → B .means (stateAfter B x ts) ≡ stateAfter ours (B .means x) ts
@@ -46,7 +46,7 @@ module _ (B : Build) (g : Agrees B) where
 
     stretch-is : (x : B .Memory) (ts : List Turn) → Stretch B table x ts → Stretch ours table (B .means x) ts
     stretch-is x [] end = end
-    stretch-is x (t ∷ ts) (then a st) = then (allowed-is x t a) (subst (λ (y : State). Stretch ours table y ts) (g .next-is x t) (stretch-is (B .turn x t .next) ts st))
+    stretch-is x (t ∷ ts) (goes-on a st) = goes-on (allowed-is x t a) (subst (λ (y : State). Stretch ours table y ts) (g .next-is x t) (stretch-is (B .turn x t .next) ts st))
 
     none-is : (x : B .Memory) (ts : List Turn) → NoneRefused ours table (B .means x) ts → NoneRefused B table x ts
     none-is x [] none-left = none-left

@@ -14,21 +14,21 @@ use Rattle.logic.specs.Loops.{_&_, count}
 use Rattle.logic.proofs.LoopLaws.{all-i, and-i, and-left, and-right, both, true-false}
 use Rattle.refusal.specs.Outcomes.{Outcome, refused, result, orRefuse}
 use Rattle.section.specs.declared.header.Header.{Header}
-use Rattle.shelf_state.specs.Records.{sameKey, watched}
+use Rattle.shelf_state.specs.Records.{sameKey}
+use Rattle.shelf_state.specs.Searches.{watched}
 use Rattle.shelf_state.specs.declared.records.Asked.{Asked}
 use Rattle.shelf_state.specs.declared.records.Edition.{Edition}
 use Rattle.shelf_state.specs.declared.records.Shelf.{Shelf}
 use Rattle.shelf_state.proofs.RecordLaws.{key-is, key-self}
-use Rattle.shelf.specs.Answers.{complete, part}
+use Rattle.shelf.specs.Views.{complete, held, Call, Kept, Opening, View, asks, bytesOr22, closes, currentOn, delivers, deliverySays, editionOf, fetches, fetchingSays, freshView, hears, hearsIn, isSome, judged, keyIn, nextView, opens, put, sameEdition, statusOf, statusSays}
 use Rattle.shelf.specs.Calls.{opened}
-use Rattle.shelf.specs.Steps.{State, Turn, accepted, did, gave, isResult, lentTo, ownOr14, step, stepOn, told, viewIn}
-use Rattle.shelf.specs.Views.{Call, Kept, Opening, View, asks, bytesOr22, closes, currentOn, delivers, deliverySays, editionOf, fetches, fetchingSays, freshView, hears, hearsIn, isSome, judged, keyIn, nextView, opens, put, sameEdition, statusOf, statusSays}
-use Rattle.shelf_laws.specs.Laws.{Obeys, Steps}
+use Rattle.shelf.specs.Steps.{State, Turn, accepted, did, gave, isResult, lentTo, ownOr14, step, stepOn, reported, viewIn}
+use Rattle.shelf_laws.specs.Laws.{Obeys, OneStep}
 use Rattle.shelf_laws.proofs.OpenLaws.{opening-passed}
 use Rattle.shelf_laws.proofs.StepLaws.{step-law}
 use Rattle.shelf_laws.proofs.ViewLaws.{none-above, pid-small, same-some, viewed}
 use Rattle.collecting.proofs.TurnLaws.{count-says, own-next, says-bytes, says-delivered, says-status}
-use Rattle.collecting.specs.Collecting.{Allowed, Complete, FirstHalf, Made, NoneRefused, OneOf, Own, Stretch, Table, stateAfter, and-then, deliver, end, fetch, here, none-left, one-more, ours, then, there}
+use Rattle.collecting.specs.Collecting.{Allowed, Complete, FirstHalf, Made, NoneRefused, OneOf, Own, Stretch, Table, stateAfter, and-then, deliver, end, fetch, here, none-left, one-more, ours, goes-on, there}
 
 -- ---- an open watch's key is not opened again
 open-refused : (s : Shelf) (area : ℕ) (a : Asked) (q : ℕ) → watched s a ≡ true → isResult (opened s area a q .outcome) ≡ false
@@ -184,8 +184,8 @@ module _ (k : Asked) (table : Table k) where
     gets = λ m l o. ⊎-elim (λ p. absurd (split (deliver (k .pid) (table .bytes m)) [] p)) (λ g. g) o;
     none-refused = none-left;
   }
-  ends x v (t ∷ ts) ok is room (one-more lent own) (then al st) =
-      let s : Steps x t = step-law x t ok lent in
+  ends x v (t ∷ ts) ok is room (one-more lent own) (goes-on al st) =
+      let s : OneStep x t = step-law x t ok lent in
       let o = turned x v ok is t lent al in
       let r = ends (step x t .next) (o .view) ts (s .keeps) (o .is-view) (omega (arith, room, o .same-quota)) (own-next s own) st in
       record {
@@ -210,14 +210,14 @@ module _ (k : Asked) (table : Table k) where
         let p : ℕ → Bool = λ m. isSome (v .kept m) in
         ap (λ (e : Edition). result (statusOf e (count (e .last + 1) p))) in-edition
         ∙ ap result (count-says n p)
-        ∙ ap (λ (b : Bool). result (pick b (complete n) (part (count n p) n))) (all-i p n (λ m l. ap isSome (got m (omega arith) .bytes-are)))
+        ∙ ap (λ (b : Bool). result (pick b (complete n) (held (count n p) n))) (all-i p n (λ m l. ap isSome (got m (omega arith) .bytes-are)))
 
     gives : (m : ℕ) (o : Option Kept) → v .kept m ≡ o → step x (fetch k m) .answer ≡ gave (bytesOr22 o)
     gives m o e = says-bytes x k ok m ∙ ap (λ (w : Option View). gave (fetchingSays w m)) is ∙ ap (λ (z : Option Kept). gave (bytesOr22 z)) e
 
     completes : Complete ours table x
     completes = record {
-      says = says-status x k ok ∙ ap (λ (w : Option View). told (statusSays w)) is ∙ ap told status-is;
+      says = says-status x k ok ∙ ap (λ (w : Option View). reported (statusSays w)) is ∙ ap reported status-is;
       holds = λ m l. gives m (some (record { bytes = table .bytes m })) (got m l .bytes-are);
       no-other = λ m l. gives m none (none-above x k v ok is m (subst (λ (e : Edition). e .last < m) (sym in-edition) l));
     }

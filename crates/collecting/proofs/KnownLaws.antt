@@ -14,16 +14,15 @@ use Rattle.shelf_state.specs.Records.{sameKey}
 use Rattle.shelf_state.specs.Rules.{inRange}
 use Rattle.shelf_state.specs.declared.records.Asked.{Asked}
 use Rattle.shelf.specs.Calls.{opened, openedInRange, orRefuseWith}
-use Rattle.shelf.specs.Steps.{Answer, State, Turn, accepted, did, gave, other, ownOr14, step, stepOn, told, viewIn}
+use Rattle.shelf.specs.Steps.{Answer, State, Turn, accepted, did, gave, other, ownOr14, step, stepOn, reported, viewIn}
 use Rattle.shelf.specs.Views.{Call, View, asks, closes, currentOn, delivers, deliverySays, fetches, fetchingSays, hearsIn, nextView, opens, statusSays}
-use Rattle.shelf_laws.specs.Laws.{Obeys, Steps}
+use Rattle.shelf_laws.specs.Laws.{Obeys, OneStep, refusedAs}
 use Rattle.shelf_laws.proofs.StepLaws.{step-law}
 use Rattle.shelf_laws.proofs.ViewLaws.{viewed}
 use Rattle.collecting.proofs.StretchLaws.{lent-other}
 use Rattle.collecting.proofs.TurnLaws.{says-bytes, says-delivered, says-status}
 use Rattle.collecting.specs.Collecting.{TableSection, deliver, fetch, ours, recorded, status}
 use Rattle.collecting.specs.Samples.{answersIn, opening}
-use Rattle.collecting.specs.Useless.{refusal}
 
 pub record Known (n : ℕ) (f : Asked → Option View) (x : State) : Type 0 where
   pub ok : Obeys x
@@ -52,7 +51,7 @@ module _ {n : ℕ} {f : Asked → Option View} where
   pub goes : (x : State) (t : Turn) (r : Answer) (g : Asked → Option View) → Known n f x → ownOr14 n (t .lent) ≡ true → step x t .answer ≡ r
       → ((k : Asked) → nextView k (t .call) (accepted r) (f k) ≡ g k) → Goes n f t r g x
   goes x t r g i lent e h =
-      let s : Steps x t = step-law x t (i .ok) (subst (λ (m : ℕ). ownOr14 m (t .lent) ≡ true) (sym (i .size)) lent) in
+      let s : OneStep x t = step-law x t (i .ok) (subst (λ (m : ℕ). ownOr14 m (t .lent) ≡ true) (sym (i .size)) lent) in
       record {
         answer = e;
         known = record {
@@ -67,18 +66,18 @@ module _ {n : ℕ} {f : Asked → Option View} where
     refuses : (t : Turn) (r : Answer) → ownOr14 n (t .lent) ≡ true → step x t .answer ≡ r → accepted r ≡ false → Goes n f t r f x
     refuses t r lent e q = goes x t r f i lent e (λ k. ap (λ (y : Bool). nextView k (t .call) y (f k)) q ∙ still k (t .call) (f k))
 
-    pub tells-status : (k : Asked) → Goes n f (status k) (told (statusSays (f k))) f x
+    pub tells-status : (k : Asked) → Goes n f (status k) (reported (statusSays (f k))) f x
     unfolding nextView
-    tells-status k = goes x (status k) _ f i refl (says-status x k (i .ok) ∙ ap (λ (v : Option View). told (statusSays v)) (i .views k)) (λ _. refl)
+    tells-status k = goes x (status k) _ f i refl (says-status x k (i .ok) ∙ ap (λ (v : Option View). reported (statusSays v)) (i .views k)) (λ _. refl)
 
     pub gives-bytes : (k : Asked) (m : ℕ) → Goes n f (fetch k m) (gave (fetchingSays (f k) m)) f x
     unfolding nextView
     gives-bytes k m = goes x (fetch k m) _ f i refl (says-bytes x k (i .ok) m ∙ ap (λ (v : Option View). gave (fetchingSays v m)) (i .views k)) (λ _. refl)
 
     -- a memory of another length
-    pub refuses-14 : (c : Call) (l : List ℕ) → ownOr14 n (other l) ≡ true → accepted (refusal c 14) ≡ false → Goes n f (record { call = c; lent = other l }) (refusal c 14) f x
+    pub refuses-14 : (c : Call) (l : List ℕ) → ownOr14 n (other l) ≡ true → accepted (refusedAs c 14) ≡ false → Goes n f (record { call = c; lent = other l }) (refusedAs c 14) f x
     refuses-14 c l lent q =
-        refuses (record { call = c; lent = other l }) (refusal c 14) lent
+        refuses (record { call = c; lent = other l }) (refusedAs c 14) lent
         (lent-other x l (i .ok) (subst (λ (m : ℕ). ownOr14 m (other l) ≡ true) (sym (i .size)) lent) c) q
 
     -- an open watch's key

@@ -15,7 +15,7 @@ use Rattle.shelf_state.specs.Rules.{promised}
 use Rattle.shelf_state.specs.declared.records.Asked.{Asked}
 use Rattle.shelf.specs.Steps.{State, Turn, accepted, step, viewIn}
 use Rattle.shelf.specs.Views.{Call, View, asks, closes, delivers, fetches, freshView, hears, hearsIn, judged, keyIn, nextView, opens}
-use Rattle.shelf_laws.specs.Laws.{Obeys, Steps, quotaClosed, quotaIn}
+use Rattle.shelf_laws.specs.Laws.{Obeys, OneStep, quotaClosed, quotaIn}
 use Rattle.shelf_laws.proofs.StepLaws.{step-law}
 use Rattle.collecting.proofs.TurnLaws.{empty-now, own-next}
 use Rattle.collecting.specs.Collecting.{Own, PlacesPromised, stateAfter, one-more, ours, quotaNext, quotasClosed, quotasOpened, recorded}
@@ -54,7 +54,7 @@ moved : (x : State) (ts : List Turn) (f : Asked → ℕ) → Obeys x → Own (le
 unfolding stateAfter recorded quotasClosed quotasOpened
 moved x [] f ok own q = refl
 moved x (t ∷ ts) f ok (one-more lent own) q =
-    let s : Steps x t = step-law x t ok lent in
+    let s : OneStep x t = step-law x t ok lent in
     let y : Bool = accepted (step x t .answer) in
     let rest = moved (step x t .next) ts (λ k. quotaNext k (t .call) y (f k)) (s .keeps) (own-next s own)
     (λ k. ap quotaIn (s .views k) ∙ quota-next k (t .call) y (viewIn x k) ∙ ap (quotaNext k (t .call) y) (q k)) in

@@ -11,19 +11,19 @@ use Rattle.logic.specs.Choices.{ifEq, ifLt, pick}
 use Rattle.logic.specs.Loops.{_&_, _⇒_, all, any, first, sum}
 use Rattle.checksum.specs.Register.{bitIn, bitsIn, fourBytes, poly, registerFrom, sealed}
 use Rattle.checksum.proofs.Sealing.{sealed-sound}
-use Rattle.bytes_at.specs.Walks.{bitsTo, ends, fieldsTo, many, then}
+use Rattle.bytes_at.specs.Walks.{bitsTo, ends, fieldsTo, many, standing, then}
 use Rattle.kind.specs.Kinds.{kindOf}
 use Rattle.kind.specs.declared.Kind.the-variants.{Eit}
-use Rattle.refusal.specs.Outcomes.{refused, result, orRefuse}
-use Rattle.section.specs.Bodies.{bodyOf}
+use Rattle.refusal.specs.Outcomes.{refused, result, after, orRefuse}
+use Rattle.section.specs.Walked.{bodyOf}
 use Rattle.section.specs.Headers.{checksumTest, headerBy, headerIn, lengthTests, numberTests, ofKind}
-use Rattle.section.specs.Sections.{bodyTest, sectionBy, verdictBy, withBody}
+use Rattle.section.specs.Sections.{bodyTest, sectionBy}
 use Rattle.shelf_state.specs.Records.{emptyShelf, holdsFor, isOf, sameKey}
 use Rattle.shelf_state.specs.Rules.{inRange, keysDiffer, keysInRange, lastBelowQuota, lengthsFit, noneAboveQuota, noneTwice, obeys, placesOwned, quotaOf, quotasFit, sizesFit, sizesInRange, unheardEmpty, watchable}
 use Rattle.shelf_state.specs.declared.records.Asked.{Asked}
 use Rattle.shelf.specs.Calls.{made, opened, openedInRange, orRefuseWith}
 use Rattle.shelf.specs.Steps.{did, step, stepOn, viewIn}
-use Rattle.shelf.specs.Views.{View, partOrComplete, currentOf, currentOn, delivers, deliverySays, freshView, hears, judged, keyIn, nextView, put, sameEdition, statusOf}
+use Rattle.shelf.specs.Views.{View, heldOrComplete, currentOf, currentOn, delivers, deliverySays, freshView, hears, judged, keyIn, nextView, put, sameEdition, statusOf}
 use Rattle.shelf_laws.proofs.EmptyLaws.{empty-law}
 use Rattle.collecting.proofs.FirstHalf.{first-half}
 use Rattle.collecting.proofs.StretchLaws.{AllPlain, Harmless, all-plain, of-table, other-key, plain, stretch-of, too-many, unsound}
@@ -45,13 +45,13 @@ fields source version number last v =
 
 pub eit-sound : (source version number last : ℕ) → version < 32 → number ≤ last → last ≤ 255
     → judged (eit source version number last) ≡ result (eitHeader source version number last)
-unfolding judged headerBy ofKind lengthTests checksumTest numberTests ifLt ifEq kindOf eit sealed fourBytes sectionBy verdictBy withBody bodyTest bodyOf then many ends bitsTo fieldsTo E.eit E.events orRefuse
+unfolding judged headerBy ofKind lengthTests checksumTest numberTests ifLt ifEq kindOf eit sealed fourBytes sectionBy bodyTest bodyOf then many ends bitsTo fieldsTo E.eit E.events orRefuse after standing
 eit-sound source version number last v n l =
     rw (sealed-sound (0xCB ∷ 0xF0 ∷ 11 ∷ 0 ∷ source ∷ (0xC1 + 2 * version) ∷ number ∷ last ∷ 0 ∷ 0 ∷ []), le-leb number last n, le-leb last 255 l)
     (ap result (fields source version number last v))
 
 pub damaged-refused : judged damaged ≡ refused 6
-unfolding judged headerBy ofKind lengthTests checksumTest ifLt ifEq kindOf eit sealed fourBytes sectionBy verdictBy withBody registerFrom bitsIn bitIn poly orRefuse
+unfolding judged headerBy ofKind lengthTests checksumTest ifLt ifEq kindOf eit sealed fourBytes sectionBy registerFrom bitsIn bitIn poly orRefuse after standing
 damaged-refused = refl
 
 pub eit-key : (pid source version number last : ℕ) → keyIn pid (eit source version number last) ≡ eitKey pid source
@@ -122,7 +122,7 @@ module _ (area : List ℕ) (size : length area ≡ room) where
 
 -- ---- what each call of the stretch answers
 sample-answers : Answers room startViews turns answers
-unfolding deliverySays sameKey _&_ hears put sameEdition statusOf partOrComplete ifEq sum currentOn inRange watchable kindOf orRefuse
+unfolding deliverySays sameKey _&_ hears put sameEdition statusOf heldOrComplete ifEq sum currentOn inRange watchable kindOf orRefuse
 sample-answers =
     answers-next (λ x i. hears-it x i (table .sections 2 (omega arith)) (omega arith) refl)
     (answers-next (λ x i. refuses-before x i 0x1D00 6 damaged (ap currentOf damaged-refused))

@@ -15,10 +15,9 @@ use Rattle.section.specs.declared.header.Header.{Header}
 use Rattle.shelf_state.specs.Records.{sameKey}
 use Rattle.shelf_state.specs.declared.records.Asked.{Asked}
 use Rattle.shelf_state.specs.declared.records.Edition.{Edition}
-use Rattle.shelf.specs.Steps.{State, Turn, accepted, gave, step, told, viewIn}
-use Rattle.shelf.specs.Views.{Call, Kept, View, asks, bytesOr22, closes, partOrComplete, delivers, editionOf, fetches, fetchingSays, freshView, hears, hearsIn, heldIn, isSome, judged, keyIn, nextView, opens, put, sameEdition, statusOf, statusSays}
-use Rattle.shelf.specs.Answers.{complete, part, unheard}
-use Rattle.shelf_laws.specs.Laws.{Obeys, Steps}
+use Rattle.shelf.specs.Steps.{State, Turn, accepted, gave, step, reported, viewIn}
+use Rattle.shelf.specs.Views.{Call, Kept, View, asks, bytesOr22, closes, heldOrComplete, delivers, editionOf, fetches, fetchingSays, freshView, hears, hearsIn, heldIn, isSome, judged, keyIn, nextView, opens, put, sameEdition, statusOf, statusSays, complete, held, unheard}
+use Rattle.shelf_laws.specs.Laws.{Obeys, OneStep}
 use Rattle.shelf_laws.proofs.StepLaws.{step-law}
 use Rattle.shelf_laws.proofs.ViewLaws.{unheard-empty}
 use Rattle.collecting.proofs.TurnLaws.{count-says, empty-now, own-next, says-bytes, says-status}
@@ -98,11 +97,11 @@ bytes-as (some b) = refl
 status-told : (hs : Option (List Heard)) (v : Option View) → Told hs v → statusSays v ≡ statusTold hs
 unfolding statusOf
 status-told none none t = refl
-status-told (some []) (some v) t = ap (λ (c : Bool). result (pick c (partOrComplete (heldIn v) (v .edition .last + 1)) unheard)) (t .edition-is)
+status-told (some []) (some v) t = ap (λ (c : Bool). result (pick c (heldOrComplete (heldIn v) (v .edition .last + 1)) unheard)) (t .edition-is)
 status-told (some (d ∷ ds)) (some v) t =
     let n : ℕ = d .head .last + 1 in
     ap (λ (e : Edition). result (statusOf e (count (e .last + 1) (λ m. isSome (v .kept m))))) (t .edition-is)
-    ∙ ap (λ (p : ℕ → Bool). result (partOrComplete (count n p) n)) (λ i m. (ap isSome (t .kept-is m) ∙ some-as (newest m (run (d ∷ ds)))) i)
+    ∙ ap (λ (p : ℕ → Bool). result (heldOrComplete (count n p) n)) (λ i m. (ap isSome (t .kept-is m) ∙ some-as (newest m (run (d ∷ ds)))) i)
     ∙ ap result (count-says n (occurs (run (d ∷ ds))))
 
 bytes-told : (hs : Option (List Heard)) (v : Option View) (m : ℕ) → Told hs v → fetchingSays v m ≡ bytesTold hs m
@@ -114,11 +113,11 @@ told-after : (x : State) (k : Asked) (ts : List Turn) (hs : Option (List Heard))
     → ToldBy ours (stateAfter ours x ts) k (heard k hs (recorded ours x ts))
 unfolding stateAfter heard recorded
 told-after x k [] hs ok own t = record {
-  says = says-status x k ok ∙ ap told (status-told hs (viewIn x k) t);
+  says = says-status x k ok ∙ ap reported (status-told hs (viewIn x k) t);
   gives = λ m. says-bytes x k ok m ∙ ap gave (bytes-told hs (viewIn x k) m t);
 }
 told-after x k (u ∷ ts) hs ok (one-more lent own) t =
-    let s : Steps x u = step-law x u ok lent in
+    let s : OneStep x u = step-law x u ok lent in
     let y : Bool = accepted (step x u .answer) in
     told-after (step x u .next) k ts (heardNext k (u .call) y hs) (s .keeps) (own-next s own)
     (subst (Told (heardNext k (u .call) y hs)) (sym (s .views k)) (next-told k (u .call) y hs (viewIn x k) t))
@@ -139,12 +138,12 @@ from-empty x k ts e own =
 pub complete-only : CompleteOnlyThen
 complete-only B h x k ts n ok silent own e = go (heard k (nothingYet (viewIn (B .means x) k)) (recorded B x ts)) (sym (h x k ts ok silent own .says) ∙ e)
   where
-    by : (c : Bool) (ds : List Heard) (N : ℕ) → all N (occurs ds) ≡ c → told (result (pick c (complete N) (part (count N (occurs ds)) N))) ≡ told (result (complete n))
+    by : (c : Bool) (ds : List Heard) (N : ℕ) → all N (occurs ds) ≡ c → reported (result (pick c (complete N) (held (count N (occurs ds)) N))) ≡ reported (result (complete n))
         → (m : ℕ) → m < n → occurs ds m ≡ true
     by true ds N a q m l = let same : N ≡ n = cc in all-at (occurs ds) N a m (omega (arith, same, l))
     by false ds N a q m l = let z : _≡_ {A = ℕ} 0 1 = cc in absurd (omega (arith, z))
 
-    go : (hs : Option (List Heard)) → told (statusTold hs) ≡ told (result (complete n)) → EachAccepted n hs
+    go : (hs : Option (List Heard)) → reported (statusTold hs) ≡ reported (result (complete n)) → EachAccepted n hs
     go none q = let z : _≡_ {A = ℕ} 0 1 = cc in absurd (omega (arith, z))
     go (some []) q = let z : _≡_ {A = ℕ} 0 1 = cc in absurd (omega (arith, z))
     go (some (d ∷ ds)) q = by (all (d .head .last + 1) (occurs (run (d ∷ ds)))) (run (d ∷ ds)) (d .head .last + 1) refl q

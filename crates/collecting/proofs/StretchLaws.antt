@@ -5,37 +5,24 @@ use mathlib.Core.Bool.{false, true}
 use mathlib.Core.List.{List, [], _∷_}
 use mathlib.Core.Option.{Option, some}
 use lib.ListN.{length}
-use borrow.Author.Tests.{eqb-false, lt-leb}
-use Rattle.logic.proofs.LoopLaws.{isnt, not-e, true-false}
+use borrow.Author.Tests.{lt-leb}
+use Rattle.logic.proofs.LoopLaws.{true-false}
 use Rattle.refusal.specs.Outcomes.{refused, result, orRefuse}
 use Rattle.section.specs.declared.header.Header.{Header}
-use Rattle.shelf_state.specs.Rules.{obeys}
 use Rattle.shelf_state.specs.declared.records.Asked.{Asked}
-use Rattle.shelf_state.proofs.RuleLaws.{rules}
-use Rattle.shelf.specs.Calls.{closed, fetched, opened, orRefuseWith, statusAfter}
-use Rattle.shelf.specs.Delivery.{delivered, delivering}
-use Rattle.shelf.specs.Steps.{Lent, State, Turn, accepted, did, other, own, ownOr14, step, stepOn, viewIn}
+use Rattle.shelf.specs.Steps.{Lent, State, Turn, accepted, did, other, own, ownOr14, step, viewIn}
 use Rattle.shelf.specs.Views.{Call, Delivery, View, asks, closes, currentOn, delivers, deliverySays, fetches, keyIn, opens}
-use Rattle.shelf_laws.specs.Laws.{Obeys, Steps}
-use Rattle.shelf_laws.proofs.StepLaws.{step-law}
+use Rattle.shelf_laws.specs.Laws.{Obeys, OneStep, refusedAs}
+use Rattle.shelf_laws.proofs.AnswerLaws.{broken-law}
+use Rattle.shelf_laws.proofs.StepLaws.{other-breaks, step-law}
 use Rattle.collecting.proofs.FirstHalf.{turned}
 use Rattle.collecting.proofs.TurnLaws.{own-next, says-delivered}
-use Rattle.collecting.specs.Collecting.{Allowed, OneOf, Own, Stretch, Table, end, one-more, ours, then}
-use Rattle.collecting.specs.Useless.{refusal}
+use Rattle.collecting.specs.Collecting.{Allowed, OneOf, Own, Stretch, Table, end, one-more, ours, goes-on}
 
 -- ---- another memory, of another length
 module _ (x : State) (l : List ℕ) (ok : Obeys x) (lent : ownOr14 (length (x .area)) (other l) ≡ true) where
-  broken : obeys (x .shelf) (length l) ≡ false
-  broken = isnt (obeys (x .shelf) (length l)) (λ e. eqb-false (length l) (length (x .area)) (not-e _ lent)
-      (rules (x .shelf) (length l) e .size .area-is ∙ sym (rules (x .shelf) (length (x .area)) ok .size .area-is)))
-
-  pub lent-other : (c : Call) → step x (record { call = c; lent = other l }) .answer ≡ refusal c 14
-  unfolding step stepOn opened closed statusAfter fetched delivered delivering orRefuseWith
-  lent-other (opens o) = rw broken
-  lent-other (closes c) = rw broken
-  lent-other (asks q) = rw broken
-  lent-other (fetches f) = rw broken
-  lent-other (delivers d) = rw broken
+  pub lent-other : (c : Call) → step x (record { call = c; lent = other l }) .answer ≡ refusedAs c 14
+  lent-other c = broken-law x (record { call = c; lent = other l }) (other-breaks x l ok lent)
 
 -- ---- what a call of a stretch may be
 -- a delivery: of another key; of the table; refused before a watch is asked for; or of more sections than the quota
@@ -85,8 +72,8 @@ pub stretch-of : (k : Asked) (table : Table k) (x : State) (v : View) (ts : List
     → AllPlain table (v .quota) ts → Stretch ours table x ts
 stretch-of k table x v [] ok is o ps = end
 stretch-of k table x v (t ∷ ts) ok is (one-more lent later) (plain p ps) =
-    let s : Steps x t = step-law x t ok lent in
+    let s : OneStep x t = step-law x t ok lent in
     let al : Allowed ours table x t = allowed k table x v ok is t lent p in
     let o = turned k table x v ok is t lent al in
-    then al (stretch-of k table (step x t .next) (o .view) ts (s .keeps) (o .is-view) (own-next s later)
+    goes-on al (stretch-of k table (step x t .next) (o .view) ts (s .keeps) (o .is-view) (own-next s later)
     (subst (λ (n : ℕ). AllPlain table n ts) (sym (o .same-quota)) ps))

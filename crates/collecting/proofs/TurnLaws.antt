@@ -14,17 +14,16 @@ use Rattle.logic.proofs.LoopLaws.{and-i, and-left, and-right, both, same-truth}
 use Rattle.logic.proofs.CountLaws.{count-upto}
 use Rattle.shelf_state.specs.declared.records.Asked.{Asked}
 use Rattle.shelf_state.specs.declared.records.Shelf.{Shelf}
-use Rattle.shelf.specs.Answers.{complete, part}
-use Rattle.shelf.specs.Steps.{State, Turn, did, gave, step, told, viewIn}
-use Rattle.shelf.specs.Views.{asks, partOrComplete, currentOn, delivers, deliverySays, fetches, fetchingSays, keyIn, statusSays}
-use Rattle.shelf_laws.specs.Laws.{Empty, Obeys, Says, Steps}
+use Rattle.shelf.specs.Views.{complete, held, asks, heldOrComplete, currentOn, delivers, deliverySays, fetches, fetchingSays, keyIn, statusSays}
+use Rattle.shelf.specs.Steps.{State, Turn, did, gave, step, reported, viewIn}
+use Rattle.shelf_laws.specs.Laws.{Empty, Obeys, Says, OneStep}
 use Rattle.shelf_laws.proofs.EmptyLaws.{empty-law}
 use Rattle.shelf_laws.proofs.StepLaws.{answer-law}
 use Rattle.collecting.specs.Collecting.{Own, StartsEmpty, deliver, fetch, ours, status}
 
 -- ---- answers
 module _ (x : State) (k : Asked) (ok : Obeys x) where
-  pub says-status : step x (status k) .answer ≡ told (statusSays (viewIn x k))
+  pub says-status : step x (status k) .answer ≡ reported (statusSays (viewIn x k))
   unfolding Says
   says-status = answer-law x (asks (record { key = k })) ok
 
@@ -37,7 +36,7 @@ unfolding Says
 says-delivered x pid b ok = answer-law x (delivers (record { pid = pid; bytes = b })) ok
 
 -- ---- the area keeps its length, so that the turns left are lent it or a memory of another length
-pub own-next : {x : State} {t : Turn} {ts : List Turn} → Steps x t → Own (length (x .area)) ts → Own (length (step x t .next .area)) ts
+pub own-next : {x : State} {t : Turn} {ts : List Turn} → OneStep x t → Own (length (x .area)) ts → Own (length (step x t .next .area)) ts
 own-next {x} {t} {ts} s own = subst (λ (n : ℕ). Own n ts) (sym (s .size)) own
 
 -- ---- a shelf that is empty
@@ -58,8 +57,8 @@ counted-all (suc n) p e = ⊎-elim
     (λ f. absurd (omega (arith, e, ap one f, count-upto n p)))
     (both (p n))
 
-pub count-says : (n : ℕ) (p : ℕ → Bool) → partOrComplete (count n p) n ≡ pick (all n p) (complete n) (part (count n p) n)
-unfolding partOrComplete ifEq
+pub count-says : (n : ℕ) (p : ℕ → Bool) → heldOrComplete (count n p) n ≡ pick (all n p) (complete n) (held (count n p) n)
+unfolding heldOrComplete ifEq
 count-says n p =
-    ap (λ (b : Bool). pick b (complete n) (part (count n p) n))
+    ap (λ (b : Bool). pick b (complete n) (held (count n p) n))
     (same-truth (eqb (count n p) n) (all n p) (λ e. counted-all n p (eqb-true _ _ e)) (λ e. eq-eqb _ _ (all-counted n p e)))

@@ -12,14 +12,13 @@ use Rattle.logic.specs.Loops.{_&_, sum}
 use Rattle.refusal.specs.Outcomes.{refused, result, orRefuse}
 use Rattle.shelf_state.specs.Records.{sameKey}
 use Rattle.shelf_state.specs.declared.records.Asked.{Asked}
-use Rattle.shelf.specs.Answers.{Status, complete, part, unheard}
-use Rattle.shelf.specs.Steps.{Answer, State, Turn, did, step, stepOn, told, viewIn}
-use Rattle.shelf.specs.Views.{Closing, Delivery, View, closes, partOrComplete, delivers, deliverySays, freshView, hears, put, sameEdition, statusOf}
+use Rattle.shelf.specs.Views.{Status, complete, held, unheard, Closing, Delivery, View, closes, heldOrComplete, delivers, deliverySays, freshView, hears, put, sameEdition, statusOf}
+use Rattle.shelf.specs.Steps.{Answer, State, Turn, did, step, stepOn, reported, viewIn}
 use Rattle.shelf_laws.proofs.ViewLaws.{never-some}
 use Rattle.collecting.proofs.KnownLaws.{Known, hearing, hears-it, tells-status}
 use Rattle.collecting.proofs.SampleLaws.{eit-key, empty-known, fresh-known, freshViews, room, table}
 use Rattle.collecting.proofs.SecondHalf.{second-half}
-use Rattle.collecting.specs.Collecting.{Allowed, Build, Complete, Exchange, FirstHalf, Made, NoneRefused, Own, SecondHalf, Silent, Stretch, stateAfter, and-then, byValue, deliver, end, heard, here, no-more, nothingYet, one-more, ours, recorded, status, statusTold, then, there}
+use Rattle.collecting.specs.Collecting.{Allowed, Build, Complete, Exchange, FirstHalf, Made, NoneRefused, Own, SecondHalf, Silent, Stretch, stateAfter, and-then, byValue, deliver, end, heard, here, no-more, nothingYet, one-more, ours, recorded, status, statusTold, goes-on, there}
 use Rattle.collecting.specs.Samples.{eitHeader, emptyState, fresh, mine, opening, section, theirs}
 use Rattle.collecting.specs.Useless.{Calls, completeAtLast, constant, hasHeard, madeUp, refusesAll, retold, storesFirst, storesNothing, telling}
 
@@ -60,7 +59,7 @@ module _ (f : Calls) where
   }
 
   stretches : Stretch B table x inOrder
-  stretches = then (allowed x 0 (omega arith)) (then (allowed _ 1 (omega arith)) (then (allowed _ 2 (omega arith)) end))
+  stretches = goes-on (allowed x 0 (omega arith)) (goes-on (allowed _ 1 (omega arith)) (goes-on (allowed _ 2 (omega arith)) end))
 
   made : (m : ℕ) → m ≤ 2 → Made (sends m) inOrder
   made zero l = here
@@ -85,16 +84,16 @@ module _ (f : Calls) where
 not-refused : (n : ℕ) → did (refused n) ≡ did (result tt) → ⊥
 not-refused n e = let z : _≡_ {A = ℕ} 0 1 = cc in absurd (omega (arith, z))
 
-not-told : (s : Status) → did (result tt) ≡ told (result s) → ⊥
+not-told : (s : Status) → did (result tt) ≡ reported (result s) → ⊥
 not-told s e = let z : _≡_ {A = ℕ} 0 1 = cc in absurd (omega (arith, z))
 
-not-unheard : (n : ℕ) → told (result unheard) ≡ told (result (complete n)) → ⊥
+not-unheard : (n : ℕ) → reported (result unheard) ≡ reported (result (complete n)) → ⊥
 not-unheard n e = let z : _≡_ {A = ℕ} 0 1 = cc in absurd (omega (arith, z))
 
-not-part : (c n : ℕ) → told (result (part c n)) ≡ told (result (complete n)) → ⊥
+not-part : (c n : ℕ) → reported (result (held c n)) ≡ reported (result (complete n)) → ⊥
 not-part c n e = let z : _≡_ {A = ℕ} 0 1 = cc in absurd (omega (arith, z))
 
-same-count : (c d n : ℕ) → told (result (part c n)) ≡ told (result (part d n)) → c ≡ d
+same-count : (c d n : ℕ) → reported (result (held c n)) ≡ reported (result (held d n)) → c ≡ d
 same-count c d n e = cc
 
 -- ---- refusing, and one answer
@@ -105,7 +104,7 @@ pub not-constant : (a : Answer) → FirstHalf (byValue (constant a)) → ⊥
 not-constant a h = not-told (complete 3) (sym (first-done (constant a) h) ∙ meets (constant a) h .1 .says)
 
 -- ---- storing
-unheard-yet : step x (status mine) .answer ≡ told (result unheard)
+unheard-yet : step x (status mine) .answer ≡ reported (result unheard)
 unfolding sameKey _&_ statusOf
 unheard-yet = tells-status x known-0 mine .answer
 
@@ -124,16 +123,16 @@ known-1 : Known room (with-section 0 freshViews) one-on
 unfolding sameKey _&_ deliverySays orRefuse
 known-1 = hears-it x known-0 (table .sections 0 (omega arith)) (omega arith) refl .known
 
-one-of-three : step one-on (status mine) .answer ≡ told (result (part 1 3))
-unfolding sameKey _&_ hears put sameEdition statusOf partOrComplete ifEq sum
+one-of-three : step one-on (status mine) .answer ≡ reported (result (held 1 3))
+unfolding sameKey _&_ hears put sameEdition statusOf heldOrComplete ifEq sum
 one-of-three = tells-status one-on known-1 mine .answer
 
 known-2 : Known room (with-section 1 (with-section 0 freshViews)) (step one-on (sends 1) .next)
 unfolding sameKey _&_ hears deliverySays orRefuse
 known-2 = hears-it one-on known-1 (table .sections 1 (omega arith)) (omega arith) refl .known
 
-two-of-three : step (step one-on (sends 1) .next) (status mine) .answer ≡ told (result (part 2 3))
-unfolding sameKey _&_ hears put sameEdition statusOf partOrComplete ifEq sum
+two-of-three : step (step one-on (sends 1) .next) (status mine) .answer ≡ reported (result (held 2 3))
+unfolding sameKey _&_ hears put sameEdition statusOf heldOrComplete ifEq sum
 two-of-three = tells-status (step one-on (sends 1) .next) known-2 mine .answer
 
 -- the first section alone is there at the end
@@ -158,7 +157,7 @@ opened-and ts = opening mine 3 ∷ opening theirs 2 ∷ ts
 
 module _ (f : ℕ → ℕ → Status) (h : SecondHalf (byValue (telling f))) where
   told-as : (ts : List Turn) (c n : ℕ) → Own room ts → stateAfter (byValue (telling f)) before ts ≡ stateAfter ours before ts → recorded (byValue (telling f)) before ts ≡ recorded ours before ts
-      → step (stateAfter ours before ts) (status mine) .answer ≡ told (result (part c n)) → told (result (f c n)) ≡ told (result (part c n))
+      → step (stateAfter ours before ts) (status mine) .answer ≡ reported (result (held c n)) → reported (result (f c n)) ≡ reported (result (held c n))
   told-as ts c n lent same-end same-record e =
       let i = empty-known blank blank-size in
       let silent : Silent before = λ k v q. never-some v (sym (i .views k) ∙ q) in
@@ -166,23 +165,23 @@ module _ (f : ℕ → ℕ → Status) (h : SecondHalf (byValue (telling f))) whe
       ap (retold f) (sym e)
       ∙ ap (λ (z : State). retold f (step z (status mine) .answer)) (sym same-end)
       ∙ h before mine ts (i .ok) silent lent-it .says
-      ∙ ap (λ (es : List Exchange). told (statusTold (heard mine (nothingYet (viewIn before mine)) es))) same-record
+      ∙ ap (λ (es : List Exchange). reported (statusTold (heard mine (nothingYet (viewIn before mine)) es))) same-record
       ∙ sym (second-half before mine ts (i .ok) silent lent-it .says)
       ∙ e
 
-  after-one : told (result (f 1 3)) ≡ told (result (part 1 3))
+  after-one : reported (result (f 1 3)) ≡ reported (result (held 1 3))
   unfolding stateAfter recorded step stepOn
   after-one = told-as (opened-and (sends 0 ∷ [])) 1 3 (one-more refl (one-more refl (one-more refl no-more))) refl refl one-of-three
 
-  after-two : told (result (f 2 3)) ≡ told (result (part 2 3))
+  after-two : reported (result (f 2 3)) ≡ reported (result (held 2 3))
   unfolding stateAfter recorded step stepOn
   after-two = told-as (opened-and (sends 0 ∷ sends 1 ∷ [])) 2 3 (one-more refl (one-more refl (one-more refl (one-more refl no-more)))) refl refl two-of-three
 
 pub not-made-up : (c : ℕ) → SecondHalf (byValue (madeUp c)) → ⊥
 not-made-up c h =
-    let one = same-count c 1 3 (after-one (λ _ n. part c n) h) in
-    let two = same-count c 2 3 (after-two (λ _ n. part c n) h) in
+    let one = same-count c 1 3 (after-one (λ _ n. held c n) h) in
+    let two = same-count c 2 3 (after-two (λ _ n. held c n) h) in
     omega (arith, one, two)
 
 pub not-complete-at-last : SecondHalf (byValue completeAtLast) → ⊥
-not-complete-at-last h = not-part 2 3 (sym (after-two (λ c n. pick (eqb (c + 1) n) (complete n) (part c n)) h))
+not-complete-at-last h = not-part 2 3 (sym (after-two (λ c n. pick (eqb (c + 1) n) (complete n) (held c n)) h))

@@ -15,10 +15,9 @@ use Rattle.section.specs.declared.header.Header.{Header}
 use Rattle.shelf_state.specs.Records.{sameKey}
 use Rattle.shelf_state.specs.Rules.{promised}
 use Rattle.shelf_state.specs.declared.records.Asked.{Asked}
-use Rattle.shelf.specs.Answers.{Status, complete, part, unheard}
+use Rattle.shelf.specs.Views.{Status, complete, held, unheard, Call, Closing, Delivery, View, asks, closes, delivers, fetches, isSome, judged, keyIn, opens}
 use Rattle.shelf.specs.Calls.{made}
-use Rattle.shelf.specs.Steps.{Answer, State, Step, Turn, accepted, did, gave, own, ownOr14, step, told, viewIn}
-use Rattle.shelf.specs.Views.{Call, Closing, Delivery, View, asks, closes, delivers, fetches, isSome, judged, keyIn, opens}
+use Rattle.shelf.specs.Steps.{Answer, State, Step, Turn, accepted, did, gave, own, ownOr14, step, reported, viewIn}
 use Rattle.shelf_laws.specs.Laws.{Obeys, quotaClosed, quotaOpened}
 use Rattle.lent_memory.specs.Meaning.{LentState}
 use Rattle.lent_laws.specs.Laws.{RefusedKeeps, lentStep, stateOf}
@@ -92,7 +91,7 @@ pub record Allowed (B : Build) {k : Asked} (table : Table k) (x : B .Memory) (t 
 
 pub data Stretch (B : Build) {k : Asked} (table : Table k) : B .Memory → List Turn → Type 0 where
   end : {x : B .Memory} → Stretch B table x []
-  then : {x : B .Memory} {t : Turn} {ts : List Turn} → Allowed B table x t → Stretch B table (B .turn x t .next) ts → Stretch B table x (t ∷ ts)
+  goes-on : {x : B .Memory} {t : Turn} {ts : List Turn} → Allowed B table x t → Stretch B table (B .turn x t .next) ts → Stretch B table x (t ∷ ts)
 
 -- a call is made at least once
 pub data Made (t : Turn) : List Turn → Type 0 where
@@ -108,7 +107,7 @@ pub data NoneRefused (B : Build) {k : Asked} (table : Table k) : B .Memory → L
 
 -- the watch ends complete, holding exactly those bytes
 pub record Complete (B : Build) {k : Asked} (table : Table k) (x : B .Memory) : Type 0 where
-  pub says : B .turn x (status k) .answer ≡ told (result (complete (table .last + 1)))
+  pub says : B .turn x (status k) .answer ≡ reported (result (complete (table .last + 1)))
   pub holds : (m : ℕ) → m ≤ table .last → B .turn x (fetch k m) .answer ≡ gave (result (table .bytes m))
   pub no-other : (m : ℕ) → table .last < m → B .turn x (fetch k m) .answer ≡ gave (refused 22)
 
@@ -177,7 +176,7 @@ occurs ds m = isSome (newest m ds)
 
 -- complete exactly where every number up to last occurs in the run, and else how many of them do
 abbrev pub statusOfRun : ℕ → List Heard → Status
-statusOfRun n ds = pick (all n (occurs ds)) (complete n) (part (count n (occurs ds)) n)
+statusOfRun n ds = pick (all n (occurs ds)) (complete n) (held (count n (occurs ds)) n)
 
 abbrev pub statusTold : Option (List Heard) → Outcome Status
 statusTold none = refused 17
@@ -197,7 +196,7 @@ abbrev pub Silent : State → Type 0
 Silent x = (k : Asked) (v : View) → viewIn x k ≡ some v → v .edition .heard ≡ false
 
 pub record ToldBy (B : Build) (x : B .Memory) (k : Asked) (hs : Option (List Heard)) : Type 0 where
-  pub says : B .turn x (status k) .answer ≡ told (statusTold hs)
+  pub says : B .turn x (status k) .answer ≡ reported (statusTold hs)
   pub gives : (m : ℕ) → B .turn x (fetch k m) .answer ≡ gave (bytesTold hs m)
 
 abbrev pub SecondHalf : Build → Type 0
@@ -213,7 +212,7 @@ EachAccepted n (some ds) = (m : ℕ) → m < n → occurs (run ds) m ≡ true
 abbrev pub CompleteOnlyThen : Type 1
 CompleteOnlyThen =
     (B : Build) → SecondHalf B → (x : B .Memory) (k : Asked) (ts : List Turn) (n : ℕ) → Obeys (B .means x) → Silent (B .means x) → Own (length (B .means x .area)) ts
-    → B .turn (stateAfter B x ts) (status k) .answer ≡ told (result (complete n))
+    → B .turn (stateAfter B x ts) (status k) .answer ≡ reported (result (complete n))
     → EachAccepted n (heard k (nothingYet (viewIn (B .means x) k)) (recorded B x ts))
 
 -- ---- from memory that means an empty shelf

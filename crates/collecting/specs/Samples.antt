@@ -8,10 +8,9 @@ use Rattle.kind.specs.declared.Kind.the-variants.{Eit}
 use Rattle.refusal.specs.Outcomes.{refused, result}
 use Rattle.section.specs.declared.header.Header.{Header}
 use Rattle.shelf_state.specs.declared.records.Asked.{Asked}
-use Rattle.shelf.specs.Answers.{complete, part}
+use Rattle.shelf.specs.Views.{complete, held, delivers, opens}
 use Rattle.shelf.specs.Calls.{made}
-use Rattle.shelf.specs.Steps.{Answer, State, Turn, did, gave, other, told}
-use Rattle.shelf.specs.Views.{delivers, opens}
+use Rattle.shelf.specs.Steps.{Answer, State, Turn, did, gave, other, reported}
 use Rattle.collecting.specs.Collecting.{Exchange, stateAfter, deliver, fetch, ours, status, to}
 
 -- ---- sections: EITs without events, current, of a source
@@ -78,7 +77,7 @@ answers =
     did (result tt)
     ∷ did (refused 6)
     ∷ did (result tt)
-    ∷ told (result (part 1 3))
+    ∷ reported (result (held 1 3))
     ∷ did (result tt)
     ∷ did (result tt)
     ∷ did (result tt)
@@ -86,7 +85,7 @@ answers =
     ∷ gave (result (section 0))
     ∷ did (refused 14)
     ∷ did (refused 19)
-    ∷ told (result (complete 1))
+    ∷ reported (result (complete 1))
     ∷ did (result tt)
     ∷ did (result tt)
     ∷ []

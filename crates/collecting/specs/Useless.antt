@@ -6,23 +6,16 @@ use mathlib.Core.Option.{Option, some, none}
 use lib.Dec.{eqb}
 use Rattle.logic.specs.Choices.{pick}
 use Rattle.refusal.specs.Outcomes.{refused, result}
-use Rattle.shelf.specs.Answers.{Status, complete, part, unheard}
-use Rattle.shelf.specs.Steps.{Answer, State, Step, Turn, did, gave, step, told, viewIn}
-use Rattle.shelf.specs.Views.{Call, Delivery, View, asks, closes, delivers, fetches, keyIn, opens}
+use Rattle.shelf.specs.Views.{Status, complete, held, unheard, Call, Delivery, View, asks, closes, delivers, fetches, keyIn, opens}
+use Rattle.shelf_laws.specs.Laws.{refusedAs}
+use Rattle.shelf.specs.Steps.{Answer, State, Step, Turn, did, gave, step, reported, viewIn}
 
 abbrev pub Calls : Type 0
 Calls = State → Turn → Step
 
 -- ---- everything is refused, by some number; everything has one answer
-abbrev pub refusal : Call → ℕ → Answer
-refusal (opens o) n = did (refused n)
-refusal (closes c) n = did (refused n)
-refusal (asks q) n = told (refused n)
-refusal (fetches f) n = gave (refused n)
-refusal (delivers d) n = did (refused n)
-
 abbrev pub refusesAll : ℕ → Calls
-refusesAll n x t = record { answer = refusal (t .call) n; next = x }
+refusesAll n x t = record { answer = refusedAs (t .call) n; next = x }
 
 abbrev pub constant : Answer → Calls
 constant a x t = record { answer = a; next = step x t .next }
@@ -52,18 +45,18 @@ storesFirst = storing (λ x d. not (hasHeard (viewIn x (keyIn (d .pid) (d .bytes
 -- ---- c of n told by another status
 abbrev pub retold : (ℕ → ℕ → Status) → Answer → Answer
 retold f (did o) = did o
-retold f (told (refused n)) = told (refused n)
-retold f (told (result unheard)) = told (result unheard)
-retold f (told (result (part c n))) = told (result (f c n))
-retold f (told (result (complete n))) = told (result (complete n))
+retold f (reported (refused n)) = reported (refused n)
+retold f (reported (result unheard)) = reported (result unheard)
+retold f (reported (result (held c n))) = reported (result (f c n))
+retold f (reported (result (complete n))) = reported (result (complete n))
 retold f (gave o) = gave o
 
 abbrev pub telling : (ℕ → ℕ → Status) → Calls
 telling f x t = record { answer = retold f (step x t .answer); next = step x t .next }
 
 abbrev pub madeUp : ℕ → Calls
-madeUp c = telling (λ _ n. part c n)
+madeUp c = telling (λ _ n. held c n)
 
 -- complete where c is last
 abbrev pub completeAtLast : Calls
-completeAtLast = telling (λ c n. pick (eqb (c + 1) n) (complete n) (part c n))
+completeAtLast = telling (λ c n. pick (eqb (c + 1) n) (complete n) (held c n))

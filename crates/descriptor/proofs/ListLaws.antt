@@ -7,13 +7,14 @@ use lib.ListN.{length}
 use Rattle.bytes_at.specs.declared.Walk.the-variants.{To}
 use Rattle.bytes_at.specs.Fields.{wordAt}
 use Rattle.bytes_at.proofs.WalkLaws.{then-inv, skipped}
-use Rattle.format.specs.Lawful.{Lies, Bytes}
+use Rattle.format.specs.Lawful.{Lies}
+use Rattle.format.specs.Repeats.{Bytes}
 use Rattle.format.specs.Formats.{walks, walksAll}
 use Rattle.format.specs.Told.{sized12, sized10}
 use Rattle.format.proofs.FieldLaws.{fields-end}
 use Rattle.format.proofs.SizedLaws.{sized12-there, sized10-there}
-use Rattle.descriptor.specs.Descriptors.{descriptors, list12, list10}
-use Rattle.descriptor.specs.Places.{listAt, listEnd}
+use Rattle.descriptor.specs.Descriptors.{descriptors}
+use Rattle.descriptor.specs.Places.{list12, list10, listAt, listEnd}
 use Rattle.descriptor.specs.Inner.{sizedDescriptors}
 
 -- where a walk past it stands: it ends there, and its descriptors fill what is between

@@ -8,7 +8,7 @@ use Rattle.bytes_at.specs.declared.Walk.the-variants.{To, Bad}
 use Rattle.logic.proofs.ChoiceLaws.{lt-yes, lt-no}
 use Rattle.bytes_at.proofs.WalkLaws.{seq-bad, then-to}
 use Rattle.format.specs.Lawful.{unto}
-use Rattle.format.specs.Formats.{last, lastButOne, both, filledBy, walks}
+use Rattle.format.specs.Formats.{lastByte, lastButOne, both, filledBy, walks}
 use Rattle.format.proofs.RepeatLaws.{list-none, list-first}
 use Rattle.format.proofs.FormatLaws.{head-forward}
 use Rattle.descriptor.specs.Descriptors.{descriptor, content}
@@ -33,4 +33,4 @@ module _ (p : ℕ → ℕ → Walk) (end at : ℕ) where
 -- a descriptor takes at least its tag and its length, and stays within the list
 pub descriptor-forward : (judged : ℕ) (s : List ℕ) (end at e : ℕ) → walks (descriptor judged) s end at ≡ To e → (at + 2 ≤ e) × (e ≤ end)
 unfolding descriptor
-descriptor-forward judged = head-forward 8 (8 ∷ []) 2 refl (both last lastButOne) (filledBy 1 (content judged))
+descriptor-forward judged = head-forward 8 (8 ∷ []) 2 refl (both lastByte lastButOne) (filledBy 1 (content judged))

@@ -7,11 +7,11 @@ use mathlib.Core.List.{List, [], _∷_}
 use native.Mathlib.Omega.{arith}
 use lib.ListN.{length}
 use lib.Dec.{eqb}
-use Rattle.format.specs.Formats.{One, Format, Filling, last, lastButOne, both, filledBy, seq, exact, anyBytes, choice, list, Full, under}
+use Rattle.format.specs.Formats.{One, Format, Filling, lastByte, lastButOne, both, filledBy, seq, exact, anyBytes, choice, list, Full, under}
 use Rattle.format.specs.Values.{bits, reserved}
 use Rattle.format.specs.Named.{named}
 use Rattle.format.specs.Heads.{Tells}
-use Rattle.format.specs.Told.{told, counting, few, sized12, sized10}
+use Rattle.format.specs.Told.{told, counting, few}
 use Rattle.format.specs.Laws.OfFull.{told-full}
 use Rattle.format.specs.Laws.OfTold.{all8}
 use Rattle.strings.specs.Strings.{text, sizedText}
@@ -66,18 +66,18 @@ pub record DescriptorFields : Type 0 where
   pub content : AdvisoryFields ⊎ List ℕ
 
 -- (a law: the reader behind a head tells its length and its tag)
-pub tag-tells : Tells (bits 8 ∷ []) 8 2 (both last lastButOne) (λ v m. (m, v .0))
+pub tag-tells : Tells (bits 8 ∷ []) 8 2 (both lastByte lastButOne) (λ v m. (m, v .0))
 tag-tells h l z = let a = all8 h 1 z in let b = all8 h 0 z in λ i. (a i, b i)
 
 -- a tag, and so many bytes of what stands in a descriptor of that tag
 module _ (judged : ℕ) where
   abbrev pub tagged : Format One
-  tagged = told (bits 8 ∷ []) 8 2 refl (both last lastButOne) (λ v m. (m, v .0)) tag-tells (filledBy 1 (content judged))
+  tagged = told (bits 8 ∷ []) 8 2 refl (both lastByte lastButOne) (λ v m. (m, v .0)) tag-tells (filledBy 1 (content judged))
       (λ x. length (content judged .enc x)) (λ v m x o. o .0)
 
   -- (a law: none is empty)
   pub tagged-full : Full tagged
-  tagged-full = told-full (bits 8 ∷ []) 8 2 refl (both last lastButOne) (λ v m. (m, v .0)) tag-tells (filledBy 1 (content judged))
+  tagged-full = told-full (bits 8 ∷ []) 8 2 refl (both lastByte lastButOne) (λ v m. (m, v .0)) tag-tells (filledBy 1 (content judged))
       (λ x. length (content judged .enc x)) (λ v m x o. o .0) (omega arith)
 
 unfoldable pub descriptor : ℕ → Format One
@@ -109,14 +109,6 @@ contentBytes judged d = content judged .enc (d .content)
 unfoldable pub descriptorBytes : ℕ → DescriptorFields → List ℕ
 unfolding descriptor
 descriptorBytes judged d = descriptor judged .enc d
-
--- r 4, descriptors_length 12, and a descriptor list of that length
-unfoldable pub list12 : ℕ → Format One
-list12 judged = sized12 (descriptors judged)
-
--- r 6, descriptors_length 10, and a descriptor list of that length
-unfoldable pub list10 : ℕ → Format One
-list10 judged = sized10 (descriptors judged)
 
 -- the tag that is judged in the events of an EIT
 abbrev pub contentAdvisory : ℕ

@@ -14,8 +14,8 @@ ghost use Prim.Native.Nat.{ℕ, _+_, _<_, _≤_};
 ghost use Rattle.bytes_at.specs.Walks.{many, fieldsTo};
 ghost use Rattle.format.specs.Lawful.{unto};
 ghost use Rattle.format.specs.Formats.{walks, walksAll};
-ghost use Rattle.descriptor.specs.Descriptors.{rated, region, advisory, content, descriptor, descriptors, list12, list10};
-ghost use Rattle.descriptor.specs.Places.{listAt, listEnd};
+ghost use Rattle.descriptor.specs.Descriptors.{rated, region, advisory, content, descriptor, descriptors};
+ghost use Rattle.descriptor.specs.Places.{list12, list10, listAt, listEnd};
 ghost use Rattle.descriptor.specs.Inner.{sizedDescriptors, stopped};
 ghost use lib.ListN.{length};
 

@@ -12,8 +12,8 @@ use Rattle.part.specs.Parts.{endOf}
 use Rattle.strings.specs.Strings.{text, sizedText}
 use Rattle.strings.specs.Places.{textAt, textEnd}
 use Rattle.strings.proofs.TextLaws.{text-end, text-inside, text-sound}
-use Rattle.descriptor.specs.Descriptors.{descriptors, contentAdvisory, list12}
-use Rattle.descriptor.specs.Places.{listAt, listEnd}
+use Rattle.descriptor.specs.Descriptors.{descriptors, contentAdvisory}
+use Rattle.descriptor.specs.Places.{list12, listAt, listEnd}
 use Rattle.descriptor.proofs.ListLaws.{ListPassed, list12-passed}
 use Rattle.eit.specs.Format.{eventHead}
 use Rattle.eit.specs.Walked.{event}

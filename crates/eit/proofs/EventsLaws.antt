@@ -6,7 +6,8 @@ use native.Mathlib.Numerals.{sub-one}
 use native.Mathlib.Omega.{arith}
 use Rattle.bytes_at.specs.declared.Walk.the-variants.{To}
 use Rattle.bytes_at.specs.Fields.{byteAt}
-use Rattle.bytes_at.specs.Walks.{many, Stands}
+use Rattle.bytes_at.specs.Walks.{many}
+use Rattle.bytes_at.specs.Inner.{Stands}
 use Rattle.bytes_at.proofs.WalkLaws.{then-inv, many-inv}
 use Rattle.logic.proofs.ChoiceLaws.{eq-yes, eq-no}
 use Rattle.format.specs.Formats.{walks, walksAll}

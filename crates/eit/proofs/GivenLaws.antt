@@ -13,8 +13,8 @@ use Rattle.logic.specs.Loops.{_&_}
 use Rattle.logic.proofs.LoopLaws.{true-false, isnt, same-truth, and-left, and-right, and-i, and-no-left}
 use Rattle.bytes_at.specs.declared.Walk.{Walk}
 use Rattle.bytes_at.specs.declared.Walk.the-variants.{To, Bad}
-use Rattle.bytes_at.specs.Walks.{Stands}
-use Rattle.format.specs.Lawful.{Bytes, All, encs}
+use Rattle.bytes_at.specs.Inner.{Stands}
+use Rattle.format.specs.Repeats.{Bytes, All, encs}
 use Rattle.format.specs.Formats.{Filling, One, anyBytes, walksAll}
 use Rattle.format.specs.Values.{bytesOf}
 use Rattle.format.specs.Laws.OfBytes.{part-length, part-bytes}
@@ -26,7 +26,8 @@ use Rattle.strings.specs.Strings.{text}
 use Rattle.descriptor.specs.Descriptors.{descriptors, contentAdvisory}
 use Rattle.eit.specs.Format.{eventOf, EventFields, eventFormat, eitOf, EitFields, eitFormat}
 use Rattle.eit.specs.Values.{OnesEvent}
-use Rattle.eit.specs.Given.{headGiven, titleGiven, listGiven, eventGiven, eventsGiven, rowFits, rowsFit, stands, partSound, rowSound, rowsSound, sizeGiven}
+use Rattle.eit.specs.Given.{headGiven, titleGiven, listGiven, eventGiven, eventsGiven, rowFits, rowsFit, stands, partSound, rowSound, rowsSound}
+use Rattle.eit.specs.Inner.{sizeGiven}
 
 -- ---- a row
 -- every number of it has room

@@ -6,7 +6,8 @@ use mathlib.Core.Option.{none, some}
 use native.Mathlib.Omega.{arith}
 use lib.ListN.{length, length-append}
 use Rattle.logic.proofs.ChoiceLaws.{eq-yes, eq-no}
-use Rattle.format.specs.Lawful.{Lies, Bytes, encs}
+use Rattle.format.specs.Lawful.{Lies}
+use Rattle.format.specs.Repeats.{Bytes, encs}
 use Rattle.format.specs.Values.{bits, bytesOf}
 use Rattle.format.specs.Laws.OfValues.{bytes-length}
 use Rattle.format.specs.Laws.OfFull.{counting-full}

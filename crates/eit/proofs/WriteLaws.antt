@@ -6,7 +6,7 @@ use native.Mathlib.Numerals.{sub-one}
 use native.Mathlib.Omega.{arith}
 use lib.ListN.{length, length-append}
 use lib.Seq.{sets, length-sets}
-use Rattle.format.specs.Lawful.{encs}
+use Rattle.format.specs.Repeats.{encs}
 use Rattle.format.specs.Formats.{anyBytes}
 use Rattle.format.specs.Told.{sized8, sized12}
 use Rattle.format.specs.Values.{number, bytesOf}
@@ -17,8 +17,8 @@ use Rattle.part.specs.Parts.{endOf, bytesIn}
 use Rattle.row.proofs.RowLaws.{sets-append}
 use Rattle.bytes_put.proofs.PutLaws.{put-behind, put-next}
 use Rattle.eit.specs.Format.{eventHead, headOf, eventOf, eitOf}
-use Rattle.eit.specs.Given.{headGiven, titleGiven, listGiven, eventGiven, eventsGiven, sizeGiven}
-use Rattle.eit.specs.Inner.{RowGiven, RowsGiven}
+use Rattle.eit.specs.Given.{headGiven, titleGiven, listGiven, eventGiven, eventsGiven}
+use Rattle.eit.specs.Inner.{sizeGiven, RowGiven, RowsGiven}
 use Rattle.eit.proofs.GivenLaws.{HasRoom, row-room, row-sound, event-length, each-fits, each-sound, each-first, size-first, events-count}
 
 -- ---- the parts of an event

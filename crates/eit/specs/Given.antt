@@ -70,8 +70,3 @@ rowSound rows bytes a = partSound text bytes (titleGiven rows a) & partSound (de
 unfoldable pub rowsSound : List ℕ → List ℕ → ℕ → ℕ → Bool
 rowsSound rows bytes zero a = true
 rowsSound rows bytes (suc n) a = rowSound rows bytes a & rowsSound rows bytes n (a + 8)
-
--- ---- the bytes of the event of a row, and of n: twelve, and those of the title and the descriptors
-unfoldable pub sizeGiven : List ℕ → ℕ → ℕ → ℕ
-sizeGiven rows zero a = 0
-sizeGiven rows (suc n) a = (12 + titleGiven rows a .length + listGiven rows a .length) + sizeGiven rows n (a + 8)

@@ -4,7 +4,7 @@ use mathlib.Core.Path.{_≡_}
 use mathlib.Core.List.{List, [], _∷_, _++_}
 use mathlib.Core.Option.{none, some}
 use lib.ListN.{length}
-use Rattle.format.specs.Lawful.{All}
+use Rattle.format.specs.Repeats.{All}
 use Rattle.format.specs.Values.{Ones, behind}
 use Rattle.part.specs.declared.Part.{Part}
 use Rattle.strings.specs.Strings.{text, structure}

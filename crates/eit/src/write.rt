@@ -16,15 +16,15 @@ ghost use Prim.Native.Nat.{_+_, _*_, _<_, _≤_};
 ghost use lib.ListN.{length, getD};
 ghost use lib.Seq.{sets};
 ghost use Rattle.part.specs.Parts.{endOf, bytesIn};
-ghost use Rattle.format.specs.Lawful.{encs};
+ghost use Rattle.format.specs.Repeats.{encs};
 ghost use Rattle.format.specs.Formats.{anyBytes};
 ghost use Rattle.format.specs.Told.{sized8, sized12};
 ghost use Rattle.format.specs.Values.{number, bytesOf};
 ghost use Rattle.strings.specs.Strings.{text};
 ghost use Rattle.descriptor.specs.Descriptors.{descriptors, contentAdvisory};
 ghost use Rattle.eit.specs.Format.{eventHead, headOf, eventOf, eitOf};
-ghost use Rattle.eit.specs.Inner.{RowGiven, RowsGiven};
-ghost use Rattle.eit.specs.Given.{headGiven, titleGiven, listGiven, eventGiven, eventsGiven, rowFits, rowsFit, stands, partSound, rowSound, rowsSound, sizeGiven};
+ghost use Rattle.eit.specs.Inner.{RowGiven, RowsGiven, sizeGiven};
+ghost use Rattle.eit.specs.Given.{headGiven, titleGiven, listGiven, eventGiven, eventsGiven, rowFits, rowsFit, stands, partSound, rowSound, rowsSound};
 
 // A number of the rows; each of them has 32 bits.
 fn number_at(rows: &[u32], i: usize) -> usize

@@ -5,7 +5,8 @@ use mathlib.Core.List.{List}
 use native.Mathlib.Omega.{arith}
 use lib.ListN.{length}
 use Rattle.bytes_at.specs.declared.Walk.the-variants.{To}
-use Rattle.bytes_at.specs.Walks.{many, Stands, standing}
+use Rattle.bytes_at.specs.Walks.{many, standing}
+use Rattle.bytes_at.specs.Inner.{Stands}
 use Rattle.bytes_at.proofs.WalkLaws.{many-in, reached, stands-at, standing-to, standing-is}
 use Rattle.refusal.specs.Outcomes.{Outcome, refused, result, after}
 use Rattle.refusal.proofs.OutcomeLaws.{after-is}
@@ -20,7 +21,7 @@ use Rattle.rrt.proofs.WalkLaws.{dimension-forward, body-dimensions}
 use Rattle.eit.proofs.EventLaws.{event-forward}
 use Rattle.eit.proofs.EventsLaws.{body-events}
 use Rattle.section.specs.declared.header.Header.{Header}
-use Rattle.section.specs.Bodies.{bodyOf}
+use Rattle.section.specs.Walked.{bodyOf}
 use Rattle.section.specs.Sections.{bodyWalk, sectionBy}
 use Rattle.section.proofs.KindLaws.{start-fits}
 use Rattle.section.proofs.SectionLaws.{section-sound}

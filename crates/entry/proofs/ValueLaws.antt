@@ -8,7 +8,8 @@ use native.Mathlib.Omega.{arith}
 use lib.ListN.{length}
 use Rattle.bytes_at.specs.declared.Walk.the-variants.{To}
 use Rattle.bytes_at.specs.Fields.{byteAt}
-use Rattle.bytes_at.specs.Walks.{many, Stands, standing}
+use Rattle.bytes_at.specs.Walks.{many, standing}
+use Rattle.bytes_at.specs.Inner.{Stands}
 use Rattle.bytes_at.proofs.FieldLaws.{past}
 use Rattle.bytes_at.proofs.WalkLaws.{many-in, reached, stands-at, standing-is, standing-to}
 use Rattle.refusal.specs.Outcomes.{Outcome, refused, result}

@@ -10,16 +10,20 @@ use Rattle.bytes_at.specs.declared.Walk.{Walk}
 use Rattle.bytes_at.specs.declared.Walk.the-variants.{To, Bad}
 use Rattle.bytes_at.specs.Walks.{then}
 use Rattle.bytes_at.proofs.WalkLaws.{then-inv}
-use Rattle.format.specs.Lawful.{part, Bytes, total}
+use Rattle.format.specs.Repeats.{Bytes, total}
 use Rattle.format.specs.Laws.OfBytes.{part-length}
 use Rattle.format.specs.Formats.{Format, Filling, Reader, Full, head, walks}
 use Rattle.format.proofs.FieldLaws.{fields-end}
+
+-- the bytes of s from a to e
+abbrev pub between : List ℕ → ℕ → ℕ → List ℕ
+between s a e = take (e - a) (drop a s)
 
 -- ---- a container that lies within a section's bytes
 module _ (s : List ℕ) (end at : ℕ) (h : at ≤ end) (m : end ≤ length s) (z : Bytes s) where
   -- a walk comes to e exactly when the bytes up to e are those of a well-formed value
   pub accepted : {C : Type 0} (f : Format C) (c : C) (e : ℕ)
-      → (f .walk c s end at ≡ To e) ↔ ((x : f .Val) × (f .Ok c x × (((at ≤ e) × (e ≤ end)) × (part s at e ≡ f .enc x))))
+      → (f .walk c s end at ≡ To e) ↔ ((x : f .Val) × (f .Ok c x × (((at ≤ e) × (e ≤ end)) × (between s at e ≡ f .enc x))))
   accepted f c e = (
     (λ w.
         let u = (f .law c) .complete s end at e h m z w in
@@ -33,7 +37,7 @@ module _ (s : List ℕ) (end at : ℕ) (h : at ≤ end) (m : end ≤ length s) (
 
   -- a filling's walk comes to the container's end exactly when all its bytes are those of a well-formed value
   pub accepted-all : {C : Type 0} (f : Filling C) (c : C)
-      → (f .walk c s end at ≡ To end) ↔ ((x : f .Val) × (f .Ok c x × (part s at end ≡ f .enc x)))
+      → (f .walk c s end at ≡ To end) ↔ ((x : f .Val) × (f .Ok c x × (between s at end ≡ f .enc x)))
   accepted-all f c = (
     (λ w.
         let u = (f .law c) .complete s end at h m z w in

@@ -8,11 +8,11 @@ use native.Mathlib.Omega.{arith}
 use lib.ListN.{length, take}
 use lib.Seq.{take-all}
 use Rattle.bytes_at.specs.declared.Walk.the-variants.{To}
-use Rattle.bytes_at.specs.Walks.{Stands}
-use Rattle.format.specs.Lawful.{part, Bytes}
+use Rattle.bytes_at.specs.Inner.{Stands}
+use Rattle.format.specs.Repeats.{Bytes}
 use Rattle.format.specs.Laws.OfBytes.{part-bytes, part-length}
 use Rattle.format.specs.Formats.{Format, Filling}
-use Rattle.format.proofs.FormatLaws.{accepted, accepted-all}
+use Rattle.format.proofs.FormatLaws.{between, accepted, accepted-all}
 
 -- a container that lies within a section of bytes
 pub record Within (s : List ℕ) (end at : ℕ) : Type 0 where
@@ -22,35 +22,35 @@ pub record Within (s : List ℕ) (end at : ℕ) : Type 0 where
 
 module _ {C : Type 0} (f : Filling C) (c : C) where
   -- the same bytes at another place, or in another section
-  pub moved : (s t : List ℕ) (e a d b : ℕ) → Within s e a → Within t d b → part s a e ≡ part t b d
+  pub moved : (s t : List ℕ) (e a d b : ℕ) → Within s e a → Within t d b → between s a e ≡ between t b d
       → Stands (f .walk c s e a) → Stands (f .walk c t d b)
   moved s t e a d b i j p w =
       let n = (f .law c) .whole s e a (w .0) (w .1) in
       let x = accepted-all s e a (i .ordered) (i .inside) (i .bytes) f c .0 (w .1 ∙ ap To n) in
       (d, accepted-all t d b (j .ordered) (j .inside) (j .bytes) f c .1 (x .0, (x .1 .0, sym p ∙ x .1 .1)))
 
-  pub part-within : (s : List ℕ) (e a : ℕ) → Within s e a → Within (part s a e) (e - a) 0
+  pub part-within : (s : List ℕ) (e a : ℕ) → Within s e a → Within (between s a e) (e - a) 0
   part-within s e a i =
       let o = i .ordered in
       let m = i .inside in
       record { ordered = omega arith; inside = omega (arith, part-length s (e - a) a (omega arith)); bytes = part-bytes s (e - a) a (i .bytes) }
 
-  part-part : (s : List ℕ) (e a : ℕ) → Within s e a → part (part s a e) 0 (e - a) ≡ part s a e
+  part-part : (s : List ℕ) (e a : ℕ) → Within s e a → between (between s a e) 0 (e - a) ≡ between s a e
   part-part s e a i =
       let o = i .ordered in
       let m = i .inside in
-      take-all (e - a - 0) (part s a e) (omega (arith, part-length s (e - a) a (omega arith)))
+      take-all (e - a - 0) (between s a e) (omega (arith, part-length s (e - a) a (omega arith)))
 
   -- the container alone
-  pub relocated : (s : List ℕ) (e a : ℕ) → Within s e a → Stands (f .walk c s e a) ↔ Stands (f .walk c (part s a e) (e - a) 0)
+  pub relocated : (s : List ℕ) (e a : ℕ) → Within s e a → Stands (f .walk c s e a) ↔ Stands (f .walk c (between s a e) (e - a) 0)
   relocated s e a i = (
-    moved s (part s a e) e a (e - a) 0 i (part-within s e a i) (sym (part-part s e a i)),
-    moved (part s a e) s (e - a) 0 e a (part-within s e a i) i (part-part s e a i),
+    moved s (between s a e) e a (e - a) 0 i (part-within s e a i) (sym (part-part s e a i)),
+    moved (between s a e) s (e - a) 0 e a (part-within s e a i) i (part-part s e a i),
   )
 
 -- a format that tells where it ends comes as far, wherever its bytes stand
 module _ {C : Type 0} (f : Format C) (c : C) where
-  pub moved-to : (s t : List ℕ) (e a d b n : ℕ) → Within s e a → Within t d b → b + n ≤ d → part s a (a + n) ≡ part t b (b + n)
+  pub moved-to : (s t : List ℕ) (e a d b n : ℕ) → Within s e a → Within t d b → b + n ≤ d → between s a (a + n) ≡ between t b (b + n)
       → f .walk c s e a ≡ To (a + n) → f .walk c t d b ≡ To (b + n)
   moved-to s t e a d b n i j h p w =
       let x = accepted s e a (i .ordered) (i .inside) (i .bytes) f c (a + n) .0 w in

@@ -5,8 +5,9 @@ use mathlib.Core.List.{List, [], _∷_}
 use native.Mathlib.Omega.{arith}
 use lib.ListN.{length}
 use Rattle.bytes_at.specs.Fields.{byteAt, wordAt}
-use Rattle.format.specs.Lawful.{Lies, Bytes, encs}
-use Rattle.format.specs.Formats.{One, Format, Filling, last, lastWord, through, filled, times, oneOrMore}
+use Rattle.format.specs.Lawful.{Lies}
+use Rattle.format.specs.Repeats.{Bytes, encs}
+use Rattle.format.specs.Formats.{One, Format, Filling, lastByte, lastWord, through, filled, times, oneOrMore}
 use Rattle.bytes_at.specs.Bits.{bitsAt}
 use Rattle.bytes_at.proofs.BitLaws.{bits-low, byte-bits, word-bits, all-at, low-at}
 use Rattle.format.specs.Values.{Field, reserved, width, Vals, valsAt}
@@ -17,13 +18,13 @@ module _ (s : List ℕ) (z : Bytes s) (at : ℕ) where
   pub sized8-there : (f : Filling One) (x : f .Val) → sized8 f .Ok (record {}) (record {}, x) → Lies (sized8 f .enc (record {}, x)) s at
       → (byteAt s at ≡ length (f .enc x)) × Lies (f .enc x) s (at + 1)
   sized8-there f x o l =
-      let t = told-there [] 8 1 refl last (λ v m. m) (last-tells [] 0 refl) (filled 1 f) (λ x. length (f .enc x)) (λ v m x o. o .0) s at (record {}) x o l in
+      let t = told-there [] 8 1 refl lastByte (λ v m. m) (last-tells [] 0 refl) (filled 1 f) (λ x. length (f .enc x)) (λ v m x o. o .0) s at (record {}) x o l in
       (all-at s at at 0 (omega arith) 8 (byte-bits s at (z at)) ∙ t .0 .1, t .1)
 
   pub counted8-there : (f : Format One) (x : List (f .Val)) → counted8 f .Ok (record {}) (record {}, x)
       → Lies (counted8 f .enc (record {}, x)) s at → (byteAt s at ≡ length x) × Lies (encs (f .enc) x) s (at + 1)
   counted8-there f x o l =
-      let t = told-there [] 8 1 refl last (λ v m. m) (last-tells [] 0 refl) (times f) (λ x. length x) (λ v m x o. o .0) s at (record {}) x o l in
+      let t = told-there [] 8 1 refl lastByte (λ v m. m) (last-tells [] 0 refl) (times f) (λ x. length x) (λ v m x o. o .0) s at (record {}) x o l in
       (all-at s at at 0 (omega arith) 8 (byte-bits s at (z at)) ∙ t .0 .1, t .1)
 
   pub sized12-there : (f : Filling One) (r : ℕ) (x : f .Val) → sized12 f .Ok (record {}) ((r, record {}), x)
@@ -44,7 +45,7 @@ module _ (s : List ℕ) (z : Bytes s) (at : ℕ) where
   pub notNone-there : (f : Format One) (x : List (f .Val)) → notNone f .Ok (record {}) (record {}, x)
       → Lies (notNone f .enc (record {}, x)) s at → (byteAt s at ≡ length x) × Lies (encs (f .enc) x) s (at + 1)
   notNone-there f x o l =
-      let t = told-there [] 8 1 refl last (λ v m. m) (last-tells [] 0 refl) (oneOrMore 1 f) (λ x. length x) (λ v m x o. o .1 .0) s at (record {}) x o l in
+      let t = told-there [] 8 1 refl lastByte (λ v m. m) (last-tells [] 0 refl) (oneOrMore 1 f) (λ x. length x) (λ v m x o. o .1 .0) s at (record {}) x o l in
       (all-at s at at 0 (omega arith) 8 (byte-bits s at (z at)) ∙ t .0 .1, t .1)
 
   pub fewNotNone-there : (fs : List Field) (n : ℕ) (whole : width fs + n ≡ 8) (f : Format One) (v : Vals fs) (x : List (f .Val))
@@ -52,7 +53,7 @@ module _ (s : List ℕ) (z : Bytes s) (at : ℕ) where
       → ((valsAt fs s at 0 ≡ v) × (byteAt s at % 2 ^ n ≡ length x)) × Lies (encs (f .enc) x) s (at + 1)
   fewNotNone-there fs n whole f v x o l =
       let t =
-      told-there fs n 1 whole (through (λ x. x % 2 ^ n) last) (λ v m. m) (low8-tells fs 0 (width fs) n whole (omega arith)) (oneOrMore 1 f)
+      told-there fs n 1 whole (through (λ x. x % 2 ^ n) lastByte) (λ v m. m) (low8-tells fs 0 (width fs) n whole (omega arith)) (oneOrMore 1 f)
       (λ x. length x) (λ v m x o. o .1 .0) s at v x o l in
       let b = bits-low s (8 * at) (width fs) n (byteAt s at) (ap (bitsAt s (8 * at)) whole ∙ byte-bits s at (z at)) in
       ((t .0 .0, sym b ∙ t .0 .1), t .1)

@@ -1,6 +1,7 @@
--- The language of formats. A format is defined once and has its values, their bytes and its walk, with the proof that the walk
--- accepts exactly the bytes of well-formed values. A walk reads a head from behind, as code does, and blames the field that
--- fails: a field that is cut by its own offset, a length that promises too much and a count that may not be 0 by theirs.
+-- The language of formats. A format is its values (`Val`), which of them are well formed (`Ok`), and their bytes (`enc`). It carries a walk, which
+-- code takes, with the proof that the walk accepts exactly the bytes of well-formed values: `walk`, `law`, and `same` of a reader can be passed
+-- over. A walk reads a head from behind, as code does, and blames the field that fails: a field that is cut by its own offset, a length
+-- that promises too much and a count that may not be 0 by theirs.
 use Prim.Native.Nat.{ℕ, suc, _+_, _-_, _*_, _<_}
 use mathlib.Core.Path.{_≡_, sym, ap, _∙_}
 use mathlib.Core.Logic.{_⊎_}
@@ -14,13 +15,14 @@ use Rattle.bytes_at.specs.declared.Walk.the-variants.{To, Bad}
 use Rattle.logic.specs.Choices.{pick}
 use Rattle.bytes_at.specs.Fields.{byteAt, wordAt}
 use Rattle.bytes_at.specs.Walks.{skipTo, fieldsTo, then, many, ends}
-use Rattle.format.specs.Lawful.{Walker, Lies, Bytes, Lawful, Fills, total, All, encs, OkOpt, encOpt, OkSum, encSum, unto}
+use Rattle.format.specs.Lawful.{Walker, Lies, Lawful, Fills, unto}
+use Rattle.format.specs.Repeats.{Bytes, total, All, encs, OkOpt, encOpt, OkSum, encSum}
 use Rattle.format.specs.Laws.OfBytes.{fields-law, raw-law, lies-byte}
 use Rattle.format.specs.Laws.OfHeads.{head-law, seq-law, via-law}
 use Rattle.format.specs.Laws.OfContainers.{filled-law, exact-law, before-law, under-law, any-law, opt-law, choice-law}
 use Rattle.format.specs.Laws.OfRepeats.{times-law, some-law, list-law}
 
--- ---- what a format is. `law`, and `same` of a reader, are proofs and may be skipped: a format is its `Val`, `Ok`, `enc` and `walk`
+-- ---- what a format is
 -- nothing is told
 abbrev pub One : Type 0
 One = record {}
@@ -48,8 +50,8 @@ pub record Reader (k : ℕ) (C : Type 0) : Type 0 where
   pub same : (s : List ℕ) (at : ℕ) (h : List ℕ) → length h ≡ k → Lies h s at → read s (at + k) ≡ read h k
 
 -- the last byte of the head
-abbrev pub last : {k : ℕ} → Reader (suc k) ℕ
-last {k} = record {
+abbrev pub lastByte : {k : ℕ} → Reader (suc k) ℕ
+lastByte {k} = record {
   read = λ s b. byteAt s (b - 1);
   same = λ s at h o l. lies-byte h s at (at + suc k - 1) (suc k - 1) l (omega arith) (omega arith);
 }

@@ -5,7 +5,7 @@ use mathlib.Core.Path.{_≡_}
 use mathlib.Core.List.{List}
 use lib.ListN.{length}
 use Rattle.bytes_at.specs.Bits.{bitsAt}
-use Rattle.format.specs.Lawful.{Bytes}
+use Rattle.format.specs.Repeats.{Bytes}
 use Rattle.format.specs.Formats.{Format, Reader}
 use Rattle.format.specs.Values.{Field, width, Vals, Fit, number, bytesOf, valsAt}
 

@@ -1,4 +1,5 @@
--- The definitions, in reading order; Laws are proofs that a format carries.
+-- The definitions, in reading order; Lawful and Laws are for the walk and the law that a format carries.
+pub mod Repeats
 pub mod Lawful
 pub mod Laws
 pub mod Formats

@@ -6,7 +6,7 @@ use mathlib.Core.List.{List}
 use native.Mathlib.Omega.{arith}
 use lib.ListN.{length}
 use lib.Seq.{take-length}
-use Rattle.format.specs.Lawful.{Bytes}
+use Rattle.format.specs.Repeats.{Bytes}
 use Rattle.format.specs.Formats.{One, Format, Recast, fields, via}
 use Rattle.format.specs.Values.{Field, width, steps, Vals, Fit, number, bytesOf, valsAt}
 use Rattle.format.specs.Laws.OfNamed.{below, vals-there, vals-back}

@@ -7,8 +7,8 @@ use mathlib.Core.Path.{_≡_, refl, sym, ap}
 use mathlib.Core.List.{List, [], _∷_, _++_}
 use native.Mathlib.Omega.{arith}
 use lib.ListN.{length}
-use Rattle.format.specs.Lawful.{Bytes}
-use Rattle.format.specs.Formats.{One, Format, Filling, Reader, Recast, last, lastWord, through, head, raw, filled, times, oneOrMore, via}
+use Rattle.format.specs.Repeats.{Bytes}
+use Rattle.format.specs.Formats.{One, Format, Filling, Reader, Recast, lastByte, lastWord, through, head, raw, filled, times, oneOrMore, via}
 use Rattle.bytes_at.proofs.BitLaws.{word-bits}
 use Rattle.format.specs.Values.{Field, bits, reserved, width, steps, Vals, number, valsAt}
 use Rattle.format.specs.Laws.OfValues.{bytes-length, bytes-bytes}
@@ -41,29 +41,29 @@ module _ {C : Type 0} (fs : List Field) (n k : ℕ) (whole : width fs + n ≡ 8 
 module _ (fs : List Field) (k : ℕ) (whole : width fs + 8 ≡ 8 * suc k) where
   -- and so many bytes
   abbrev pub raws : Format One
-  raws = told fs 8 (suc k) whole last (λ v m. m) (last-tells fs k whole) (raw 1) (λ x. length x) (λ v m x o. o .0)
+  raws = told fs 8 (suc k) whole lastByte (λ v m. m) (last-tells fs k whole) (raw 1) (λ x. length x) (λ v m x o. o .0)
 
   -- and what fills so many bytes
   abbrev pub sizing : Filling One → Format One
-  sizing f = told fs 8 (suc k) whole last (λ v m. m) (last-tells fs k whole) (filled 1 f) (λ x. length (f .enc x)) (λ v m x o. o .0)
+  sizing f = told fs 8 (suc k) whole lastByte (λ v m. m) (last-tells fs k whole) (filled 1 f) (λ x. length (f .enc x)) (λ v m x o. o .0)
 
   -- and as many
   abbrev pub counting : Format One → Format One
-  counting f = told fs 8 (suc k) whole last (λ v m. m) (last-tells fs k whole) (times f) (λ x. length x) (λ v m x o. o .0)
+  counting f = told fs 8 (suc k) whole lastByte (λ v m. m) (last-tells fs k whole) (times f) (λ x. length x) (λ v m x o. o .0)
 
 -- a count in the n last bits of a byte, after fields, and as many; the same where it may not be 0
 module _ (fs : List Field) (n : ℕ) (whole : width fs + n ≡ 8) where
   abbrev pub few : Format One → Format One
-  few f = told fs n 1 whole (through (λ x. x % 2 ^ n) last) (λ v m. m) (low8-tells fs 0 (width fs) n whole (omega arith)) (times f) (λ x. length x)
+  few f = told fs n 1 whole (through (λ x. x % 2 ^ n) lastByte) (λ v m. m) (low8-tells fs 0 (width fs) n whole (omega arith)) (times f) (λ x. length x)
       (λ v m x o. o .0)
 
   abbrev pub fewNotNone : Format One → Format One
-  fewNotNone f = told fs n 1 whole (through (λ x. x % 2 ^ n) last) (λ v m. m) (low8-tells fs 0 (width fs) n whole (omega arith)) (oneOrMore 1 f)
+  fewNotNone f = told fs n 1 whole (through (λ x. x % 2 ^ n) lastByte) (λ v m. m) (low8-tells fs 0 (width fs) n whole (omega arith)) (oneOrMore 1 f)
       (λ x. length x) (λ v m x o. o .1 .0)
 
 -- a count of 8 bits that may not be 0, and as many
 abbrev pub notNone : Format One → Format One
-notNone f = told [] 8 1 refl last (λ v m. m) (last-tells [] 0 refl) (oneOrMore 1 f) (λ x. length x) (λ v m x o. o .1 .0)
+notNone f = told [] 8 1 refl lastByte (λ v m. m) (last-tells [] 0 refl) (oneOrMore 1 f) (λ x. length x) (λ v m x o. o .1 .0)
 
 -- a count of 16 bits, and as many
 abbrev pub counted16 : Format One → Format One

@@ -4,7 +4,8 @@ use section::judge_any;
 use telling::sections::tell_fault;
 use telling::sections::tell_header;
 ghost use Rattle.kind.specs.Kinds.{kindOf};
-ghost use Rattle.section.specs.Sections.{sectionBy, verdictBy};
+ghost use Rattle.section.specs.Answers.{verdictBy};
+ghost use Rattle.section.specs.Sections.{sectionBy};
 ghost use Rattle.telling.specs.Told.{Told, oneNumber};
 ghost use Rattle.telling.specs.Sections.{headerNumbers, faultOf};
 

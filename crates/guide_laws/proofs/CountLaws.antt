@@ -13,7 +13,7 @@ use Rattle.refusal.proofs.TestLaws.{passed-le}
 use Rattle.kind.specs.declared.Kind.{Kind}
 use Rattle.kind.specs.declared.Kind.the-variants.{Rrt, Eit, Ett}
 use Rattle.kind.specs.Kinds.{onlyOf, limitsOf}
-use Rattle.format.specs.Lawful.{Bytes}
+use Rattle.format.specs.Repeats.{Bytes}
 use Rattle.rrt.specs.Fields.{dimensionEnd}
 use Rattle.section.specs.Sections.{sectionBy}
 use Rattle.section.specs.Writing.{lengthFits}

@@ -12,7 +12,7 @@ use Rattle.refusal.proofs.OutcomeLaws.{after-is, same-result, not-both}
 use Rattle.refusal.proofs.TestLaws.{passed-le}
 use Rattle.kind.specs.Kinds.{onlyOf}
 use Rattle.bytes_at.specs.Fields.{byteAt}
-use Rattle.format.specs.Lawful.{Bytes}
+use Rattle.format.specs.Repeats.{Bytes}
 use Rattle.format.specs.Formats.{walksAll}
 use Rattle.strings.specs.Strings.{text}
 use Rattle.part.specs.declared.Part.{Part}

@@ -13,7 +13,7 @@ use Rattle.kind.specs.declared.Kind.the-variants.{Mgt, Tvct, Rrt, Eit, Ett}
 use Rattle.kind.specs.Kinds.{onlyOf, kindOf, tableIdOf}
 use Rattle.bytes_at.specs.Fields.{byteAt}
 use Rattle.bytes_at.specs.Bits.{bitsAt}
-use Rattle.format.specs.Lawful.{Bytes}
+use Rattle.format.specs.Repeats.{Bytes}
 use Rattle.part.specs.Parts.{endOf}
 use Rattle.row.specs.Rows.{partRow}
 use Rattle.descriptor.specs.Places.{listAt}

@@ -7,7 +7,7 @@ use lib.ListN.{length}
 use Rattle.refusal.specs.Outcomes.{Outcome, result}
 use Rattle.refusal.specs.Outputs.{counted}
 use Rattle.kind.specs.Kinds.{kindOf}
-use Rattle.format.specs.Lawful.{Bytes}
+use Rattle.format.specs.Repeats.{Bytes}
 use Rattle.text.specs.Answers.{amountOf}
 use Rattle.text.specs.Texts.{fitting, fieldCount, fieldUnits, fieldReplaced, fieldHeading}
 use Rattle.section.specs.Sections.{sectionBy}

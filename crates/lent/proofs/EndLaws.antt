@@ -15,7 +15,8 @@ use Rattle.refusal.specs.Outcomes.{Outcome}
 use Rattle.shelf_state.specs.Records.{watchAt}
 use Rattle.shelf_state.specs.declared.records.Asked.{Asked}
 use Rattle.shelf_state.specs.declared.records.Shelf.{Shelf}
-use Rattle.shelf.specs.Answers.{After, Status}
+use Rattle.shelf.specs.Answers.{After}
+use Rattle.shelf.specs.Views.{Status}
 use Rattle.shelf.specs.Calls.{closed, fetched, opened, statusAfter}
 use Rattle.shelf.specs.Delivery.{areaAfter, delivered, delivering}
 use Rattle.lent_memory.specs.Meaning.{blank, lent, meaning, numberAt, recordOf, shelfIn}

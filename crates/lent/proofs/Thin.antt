@@ -106,8 +106,8 @@ abbrev stayed : Stays (f.ended .signature .params) (f.ended .kept)
 stayed = (gave-slice (0 ∷ []) tt (plain (λ _. R)), (gave-slice (1 ∷ []) tt (plain (λ _. u32)), (gave-slice (2 ∷ []) tt (plain (λ _. u8)), (stay-dropped (shrSliceOf (3 ∷ []) tt (plain (λ _. u8))) yes, (stay-dropped (shrSliceOf (4 ∷ []) tt (plain (λ _. u32))) yes, (gave-slice (5 ∷ []) tt (plain (λ _. u32)), tt))))))
 
 -- what a call says
-abbrev pub Says : CallIn → List LentWatch → (ps ar ss qs re : List ℕ) → ℕ → List LentWatch → (ps′ ar′ re′ : List ℕ) → Type 0
-Says g ws ps ar ss qs re n ws′ ps′ ar′ re′ = left n ws′ ps′ ar′ re′ ≡ called g (lent ws ps ar) ss qs re
+abbrev pub Leaves : CallIn → List LentWatch → (ps ar ss qs re : List ℕ) → ℕ → List LentWatch → (ps′ ar′ re′ : List ℕ) → Type 0
+Leaves g ws ps ar ss qs re n ws′ ps′ ar′ re′ = left n ws′ ps′ ar′ re′ ≡ called g (lent ws ps ar) ss qs re
 
 module _ {M : Type 1} (𝓤 : URA M) (g : CallIn) where
   abbrev pub core : Clauses 𝓤 co.ended
@@ -121,7 +121,7 @@ module _ {M : Type 1} (𝓤 : URA M) (g : CallIn) where
   entry κs a = record {
     ghost = Unit {0};
     requires = λ _. emp 𝓤;
-    ensures = λ _ r e. fact 𝓤 (Says g (a .0 .now) (a .1 .0 .now) (a .1 .1 .0 .now) (a .1 .1 .1 .0 .now) (a .1 .1 .1 .1 .0 .now) (a .1 .1 .1 .1 .1 .0 .now) r (e .0 .now) (e .1 .0 .now) (e .1 .1 .0 .now) (e .1 .1 .1 .1 .1 .0 .now));
+    ensures = λ _ r e. fact 𝓤 (Leaves g (a .0 .now) (a .1 .0 .now) (a .1 .1 .0 .now) (a .1 .1 .1 .0 .now) (a .1 .1 .1 .1 .0 .now) (a .1 .1 .1 .1 .1 .0 .now) r (e .0 .now) (e .1 .0 .now) (e .1 .1 .0 .now) (e .1 .1 .1 .1 .1 .0 .now));
   }
 
 module _ {M : Type 1} (𝓤 : URA M) (H : Heap 𝓤) (A : Atoms 𝓤) (mem : Memory → SProp 𝓤) (run : Routine → Fun 𝓤) where
@@ -192,7 +192,7 @@ module _ {M : Type 1} (𝓤 : URA M) (H : Heap 𝓤) (A : Atoms 𝓤) (W : Given
   abbrev Lasts : List LentWatch → (ps ar re : List ℕ) → List (Item 𝓤)
   Lasts zs ps ar re = (‵ (flft κ q) ⊛ ‵ ftrue) ∷ ‵ (finally R γ zs) ∷ T1 ∷ ‵ (finally u32 (xp .name) ps) ∷ ‵ (finally u8 (xa .name) ar) ∷ ‵ (finally u32 (xr .name) re) ∷ []
 
-  exits : (n : ℕ) (zs : List LentWatch) (ps ar re : List ℕ) → Says g ys (xp .now) (xa .now) (xs .now) (xq .now) (xr .now) n zs ps ar re → length zs ≡ length ys → length ps ≡ length (xp .now) → length ar ≡ length (xa .now) → length re ≡ length (xr .now)
+  exits : (n : ℕ) (zs : List LentWatch) (ps ar re : List ℕ) → Leaves g ys (xp .now) (xa .now) (xs .now) (xq .now) (xr .now) n zs ps ar re → length zs ≡ length ys → length ps ≡ length (xp .now) → length ar ≡ length (xa .now) → length re ≡ length (xr .now)
       → Is u32 n (vint w32 n ∷ []) → ent 𝓤 (⋆ 𝓤 H A (Lasts zs ps ar re)) (Post (vint w32 n))
   exits n zs ps ar re e l l₁ l₂ l₃ i =
       qed W (Lasts zs ps ar re) ∵

@@ -1,7 +1,8 @@
 -- The five calls on lent memory, by the shelf's own definitions: what each answers, and all that it was lent afterwards. SCOPE 5, 6.
 use Prim.Native.Nat.{ℕ}
+use mathlib.Core.Bool.{Bool}
 use mathlib.Core.List.{List, _++_}
-use lib.Dec.{ltb}
+use lib.Dec.{leb}
 use lib.ListN.{drop, length, take}
 use Rattle.logic.specs.Choices.{pick}
 use Rattle.refusal.specs.Outputs.{numberIn}
@@ -59,9 +60,14 @@ fetchingIn b q = fetches (record { key = askedIn q; number = amountIn q })
 abbrev pub deliveryIn : CallIn
 deliveryIn b q = delivers (record { pid = numberAt q 0; bytes = b })
 
--- ---- a call as it is made: first of all, 14 where the question is not four numbers or the reply not three
+-- ---- a call as it is made
+-- a refusal is given exactly where its test fails and none before it did, with all that is lent as it was
+abbrev pub orRefuseLent : ℕ → LentState → List ℕ → Bool → Left → Left
+orRefuseLent n x y t r = pick t r (record { number = n; state = x; reply = y })
+
+-- first of all, 14 where the question is not four numbers or the reply not three
 unfoldable pub called : CallIn → LentState → List ℕ → List ℕ → List ℕ → Left
-called f x b q y = pick (callFits q y) (lentCall x (f b q) y) (record { number = 14; state = x; reply = y })
+called f x b q y = orRefuseLent 14 x y (callFits q y) (lentCall x (f b q) y)
 
 -- ---- a call with the records by value: the first n of them are lent, and those behind stay as they were. First of all, 14 where n is
 -- more than a shelf can have
@@ -69,4 +75,4 @@ abbrev pub followedBy : Left → List LentWatch → Left
 followedBy r ws = left (r .number) (r .state .watches ++ ws) (r .state .places) (r .state .area) (r .reply)
 
 unfoldable pub calledFirst : CallIn → ℕ → List LentWatch → (l area b q y : List ℕ) → Left
-calledFirst f n ws l area b q y = pick (ltb 16 n) (left 14 ws l area y) (followedBy (called f (lent (take n ws) l area) b q y) (drop n ws))
+calledFirst f n ws l area b q y = orRefuseLent 14 (lent ws l area) y (leb n 16) (followedBy (called f (lent (take n ws) l area) b q y) (drop n ws))

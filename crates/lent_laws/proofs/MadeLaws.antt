@@ -13,7 +13,8 @@ use Rattle.logic.proofs.LoopLaws.{both, each-at, each-past, length-each}
 use Rattle.logic.specs.Choices.{pick}
 use Rattle.section.specs.declared.header.Header.{Header}
 use Rattle.shelf_state.proofs.RuleLaws.{rules}
-use Rattle.shelf_state.specs.Records.{blankPlace, blankWatch, dropped, freeRecord, holdsFor, placeAt, release, setPlace, setWatch, watchAt, watchOf}
+use Rattle.shelf_state.specs.Records.{blankPlace, blankWatch, holdsFor, placeAt, watchAt}
+use Rattle.shelf_state.specs.Searches.{dropped, freeRecord, release, setPlace, setWatch, watchOf}
 use Rattle.shelf_state.specs.Rules.{obeys}
 use Rattle.shelf_state.specs.declared.records.Asked.{Asked}
 use Rattle.shelf_state.specs.declared.records.Place.{Place}

@@ -16,22 +16,24 @@ use Rattle.kind.specs.declared.Limits.{Limits}
 use Rattle.logic.specs.Loops.{any}
 use Rattle.part.specs.declared.Part.{Part}
 use Rattle.refusal.specs.Numbers.{numberOf}
-use Rattle.refusal.specs.Outcomes.{Outcome, refused, result, orRefuse}
+use Rattle.refusal.specs.Outcomes.{Outcome, refused, result, after, orRefuse}
+use Rattle.bytes_at.specs.Walks.{standing}
 use Rattle.refusal.proofs.TestLaws.{either-way}
 use Rattle.refusal.specs.declared.Refusal.{Refusal}
 use Rattle.refusal.specs.declared.Refusal.the-variants.{TooShort, OtherTable, Indicator, LengthRange, ByteCount, Checksum, ProtocolVersion, SectionNumber, Body, NotAReadPair, BrokenText, OutputShort, NoSuchEntry, ShelfBroken, OutOfRange, NotCurrent, NotWatched, AboveQuota, AlreadyWatched, NoRecordLeft, NoPlacesLeft, NotHeld, FieldTooLarge, SectionTooLong}
 use Rattle.section.specs.Headers.{checksumTest, headerBy, lengthTests, numberTests, ofKind}
-use Rattle.section.specs.Sections.{bodyTest, bodyWalk, plainly, sectionBy, verdictBy, byWalk, withBody}
+use Rattle.section.specs.Sections.{bodyTest, bodyWalk, sectionBy}
 use Rattle.section.specs.declared.header.Header.{Header}
-use Rattle.shelf_state.specs.Records.{findWatch, isOf, watchIn}
+use Rattle.shelf_state.specs.Records.{isOf, watchIn}
+use Rattle.shelf_state.specs.Searches.{findWatch}
 use Rattle.shelf_state.specs.declared.records.Asked.{Asked}
 use Rattle.shelf_state.specs.declared.records.Shelf.{Shelf}
 use Rattle.shelf_state.specs.declared.records.Watch.{Watch}
-use Rattle.shelf.specs.Answers.{After, Status, complete, part, unheard}
+use Rattle.shelf.specs.Answers.{After}
+use Rattle.shelf.specs.Views.{Status, complete, held, unheard, judged, keyIn}
 use Rattle.shelf.specs.Calls.{closed, fetched, fetchedFrom, opened, openedInRange, orRefuseWith, statusAfter}
 use Rattle.shelf.specs.Delivery.{arriving, byJudge, delivered, delivering, done, forOwner, ownerIn, received, receivedAt}
 use Rattle.shelf.specs.Steps.{isResult}
-use Rattle.shelf.specs.Views.{judged, keyIn}
 use Rattle.refusal.specs.Outputs.{numberIn}
 use Rattle.lent_memory.specs.Replies.{partNumbers, replyAfter, statusNumbers}
 use Rattle.lent_memory.specs.Meaning.{numberAt}
@@ -52,7 +54,7 @@ pub status-back : (y : List ℕ) (o : Outcome Status) → Numbered o
 status-back y (refused zero) h = absurd (omega (arith, h))
 status-back y (refused (suc k)) h = refl
 status-back y (result unheard) h = refl
-status-back y (result (part c n)) h = refl
+status-back y (result (held c n)) h = refl
 status-back y (result (complete n)) h = refl
 
 pub part-back : (y : List ℕ) (o : Outcome Part) → Numbered o → outcomeIn (numberIn o) (partIn (numberAt (replyAfter partNumbers y o) 1) (numberAt (replyAfter partNumbers y o) 2)) ≡ o
@@ -109,17 +111,18 @@ unfolding ofKind
 kind-numbered s Nothing = omega arith
 kind-numbered s (Is k) = lengths-numbered _ k s
 
-body-numbered : (w : Walk) (h : Header) → Numbered (plainly (byWalk w h))
+body-numbered : (w : Walk) (h : Header) → Numbered (after (standing w) (λ e. result h))
+unfolding after standing
 body-numbered (To e) h = tt
 body-numbered (Bad e) h = omega arith
 
-with-numbered : (o : Outcome Header) (s : List ℕ) → Numbered o → Numbered (plainly (withBody o s))
-unfolding withBody bodyTest
+with-numbered : (o : Outcome Header) (s : List ℕ) → Numbered o → Numbered (after o (λ h. bodyTest h s))
+unfolding after bodyTest
 with-numbered (refused n) s h = h
 with-numbered (result x) s h = body-numbered (bodyWalk (x .kind) s) x
 
 judged-numbered : (b : List ℕ) → Numbered (judged b)
-unfolding judged sectionBy verdictBy headerBy
+unfolding judged sectionBy headerBy
 judged-numbered b = with-numbered (headerBy kindOf b) b (either-way Numbered 1 _ _ (omega arith) (kind-numbered b _))
 
 owner-picks : (a b c : Bool) (w : ℕ) → Numbered (orRefuse {A = ℕ} 16 (not a) (orRefuse 17 b (orRefuse 18 c (result w))))

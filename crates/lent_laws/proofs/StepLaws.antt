@@ -10,12 +10,12 @@ use Rattle.logic.proofs.LoopLaws.{both, true-false}
 use Rattle.logic.specs.Choices.{pick}
 use Rattle.part.specs.declared.Part.{Part}
 use Rattle.refusal.specs.Outcomes.{Outcome, refused, result}
-use Rattle.shelf_state.specs.Records.{freeRecord, watchOf}
+use Rattle.shelf_state.specs.Searches.{freeRecord, watchOf}
 use Rattle.shelf_state.specs.declared.records.Shelf.{Shelf}
 use Rattle.shelf.specs.Answers.{After}
 use Rattle.shelf.specs.Calls.{closed, fetched, opened, statusAfter}
 use Rattle.shelf.specs.Delivery.{areaAfter, delivered, delivering}
-use Rattle.shelf.specs.Steps.{Lent, State, Turn, accepted, areaThen, did, fetchedBytes, gave, isResult, lentTo, other, own, step, stepOn, told}
+use Rattle.shelf.specs.Steps.{Lent, State, Turn, accepted, areaThen, did, fetchedBytes, gave, isResult, lentTo, other, own, step, stepOn, reported}
 use Rattle.shelf.specs.Views.{Call, asks, closes, delivers, fetches, keyIn, opens}
 use Rattle.shelf_laws.proofs.CloseLaws.{closing-passed}
 use Rattle.shelf_laws.proofs.DeliverLaws.{delivery-passed}
@@ -96,7 +96,7 @@ module _ (x : LentState) (u : Lent) where
   unfolding lentStep lentCall step stepOn
   answer-is y (opens o) = ap did (unit-back _ (opened-numbered (meaning x) (length area) (o .key) (o .quota)))
   answer-is y (closes c) = ap did (unit-back _ (closed-numbered (meaning x) (length area) (c .key)))
-  answer-is y (asks q) = ap told (status-back y _ (status-numbered (meaning x) (length area) (q .key)))
+  answer-is y (asks q) = ap reported (status-back y _ (status-numbered (meaning x) (length area) (q .key)))
   answer-is y (fetches g) = ap (λ (o : Outcome Part). gave (fetchedBytes area o)) (part-back y (fetched (meaning x) (length area) (g .key) (g .number) .outcome) (fetched-numbered (meaning x) (length area) (g .key) (g .number)))
   answer-is y (delivers d) = ap did (unit-back _ (delivered-numbered (meaning x) (length area) (d .pid) (d .bytes)))
 

@@ -8,9 +8,8 @@ use Rattle.logic.specs.Choices.{pick}
 use Rattle.part.specs.declared.Part.{Part}
 use Rattle.refusal.specs.Outcomes.{Outcome, refused, result}
 use Rattle.shelf_state.specs.Records.{emptyShelf}
-use Rattle.shelf.specs.Answers.{Status, complete, part, unheard}
-use Rattle.shelf.specs.Steps.{Answer, State, Turn, areaThen, did, fetchedBytes, gave, lentTo, step, told}
-use Rattle.shelf.specs.Views.{Call, asks, closes, delivers, fetches, opens}
+use Rattle.shelf.specs.Views.{Status, complete, held, unheard, Call, asks, closes, delivers, fetches, opens}
+use Rattle.shelf.specs.Steps.{Answer, State, Turn, areaThen, did, fetchedBytes, gave, lentTo, step, reported}
 use Rattle.lent.specs.Calls.{Left, CallIn, called, lentCall}
 use Rattle.lent_memory.specs.Meaning.{LentState, blank, lent, meaning, numberAt, rowSize}
 
@@ -24,7 +23,7 @@ outcomeIn zero a = result a
 outcomeIn (suc k) a = refused (suc k)
 
 abbrev pub statusIn : ℕ → ℕ → ℕ → Status
-statusIn k c n = pick (eqb k 1) unheard (pick (eqb k 2) (part c n) (complete n))
+statusIn k c n = pick (eqb k 1) unheard (pick (eqb k 2) (held c n) (complete n))
 
 abbrev pub partIn : ℕ → ℕ → Part
 partIn a n = record { start = a; length = n }
@@ -32,7 +31,7 @@ partIn a n = record { start = a; length = n }
 abbrev pub answerIn : Call → ℕ → List ℕ → List ℕ → Answer
 answerIn (opens o) n area y = did (outcomeIn n tt)
 answerIn (closes c) n area y = did (outcomeIn n tt)
-answerIn (asks q) n area y = told (outcomeIn n (statusIn (numberAt y 0) (numberAt y 1) (numberAt y 2)))
+answerIn (asks q) n area y = reported (outcomeIn n (statusIn (numberAt y 0) (numberAt y 1) (numberAt y 2)))
 answerIn (fetches f) n area y = gave (fetchedBytes area (outcomeIn n (partIn (numberAt y 1) (numberAt y 2))))
 answerIn (delivers d) n area y = did (outcomeIn n tt)
 

@@ -13,13 +13,14 @@ use Rattle.logic.specs.Choices.{ifEq, pick}
 use Rattle.part.specs.declared.Part.{Part}
 use Rattle.shelf_state.proofs.RecordLaws.{holds-parts}
 use Rattle.shelf_state.proofs.RuleLaws.{found-live, in-range, rules}
-use Rattle.shelf_state.specs.Records.{holds, isHeld, isOf, placeAt, placeOf, watchAt, watchOf, watched}
+use Rattle.shelf_state.specs.Records.{holds, isOf, placeAt, watchAt}
+use Rattle.shelf_state.specs.Searches.{isHeld, placeOf, watchOf, watched}
 use Rattle.shelf_state.specs.Rules.{obeys}
 use Rattle.shelf_state.specs.declared.records.Asked.{Asked}
 use Rattle.shelf_state.specs.declared.records.Shelf.{Shelf}
-use Rattle.shelf.specs.Answers.{After, Status, complete, part, unheard}
+use Rattle.shelf.specs.Answers.{After}
+use Rattle.shelf.specs.Views.{Status, complete, held, unheard, heldOrComplete, statusOf}
 use Rattle.shelf.specs.Calls.{fetched, fetchedFrom, heldNumbers, orRefuseWith, statusAfter}
-use Rattle.shelf.specs.Views.{partOrComplete, statusOf}
 use Rattle.refusal.specs.Outcomes.{result}
 use Rattle.lent_memory.specs.Inner.{SmallPart, SmallStatus}
 
@@ -34,12 +35,12 @@ abbrev Fits : ℕ → Type 0
 Fits n = n < 4294967296
 
 -- ---- a status
-small-count : (c n : ℕ) (b : Bool) → Fits c × Fits n → SmallStatus (result (pick b (complete n) (part c n)))
+small-count : (c n : ℕ) (b : Bool) → Fits c × Fits n → SmallStatus (result (pick b (complete n) (held c n)))
 small-count c n true h = h .1
 small-count c n false h = h
 
-small-heard : (b : Bool) (c n : ℕ) → (b ≡ true → Fits c × Fits n) → SmallStatus (result (pick b (partOrComplete c n) unheard))
-unfolding partOrComplete ifEq
+small-heard : (b : Bool) (c n : ℕ) → (b ≡ true → Fits c × Fits n) → SmallStatus (result (pick b (heldOrComplete c n) unheard))
+unfolding heldOrComplete ifEq
 small-heard true c n h = small-count c n (eqb c n) (h refl)
 small-heard false c n h = tt
 

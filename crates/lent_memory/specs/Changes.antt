@@ -1,11 +1,12 @@
 -- What a call writes into lent memory: the record and the rows that are others on the shelf after it. All else stays as it was, with
 -- what stands in closed records and free rows.
 use Prim.Native.Nat.{ℕ, zero, suc, _+_, _*_}
-use mathlib.Core.Bool.{Bool, true, false, not}
+use mathlib.Core.Bool.{Bool, not}
 use mathlib.Core.List.{List}
 use lib.Dec.{eqb, ltb}
 use lib.ListN.{set}
 use Rattle.logic.specs.Choices.{pick}
+use Rattle.logic.specs.Inner.{equalBool}
 use Rattle.logic.specs.Loops.{_&_, first, one}
 use Rattle.shelf_state.specs.Records.{asked, placeAt, sameKey, watchAt}
 use Rattle.shelf_state.specs.declared.records.Edition.{Edition}
@@ -14,11 +15,6 @@ use Rattle.shelf_state.specs.declared.records.Shelf.{Shelf}
 use Rattle.shelf_state.specs.declared.records.Watch.{Watch}
 use Rattle.lent_memory.specs.Meaning.{clamp, recordOf, rowSize}
 use Rattle.lent_memory.specs.declared.records.LentWatch.{LentWatch}
-
--- ---- when two records or places are equal, field by field
-unfoldable pub equalBool : Bool → Bool → Bool
-equalBool true b = b
-equalBool false b = not b
 
 unfoldable pub equalEdition : Edition → Edition → Bool
 equalEdition a b = equalBool (a .heard) (b .heard) & eqb (a .version) (b .version) & eqb (a .last) (b .last)

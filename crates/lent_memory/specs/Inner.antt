@@ -10,7 +10,7 @@ use Rattle.refusal.specs.Outcomes.{Outcome, refused, result}
 use Rattle.shelf_state.specs.Records.{watchAt}
 use Rattle.shelf_state.specs.declared.records.Shelf.{Shelf}
 use Rattle.shelf_state.specs.declared.records.Watch.{Watch}
-use Rattle.shelf.specs.Answers.{Status, complete, part, unheard}
+use Rattle.shelf.specs.Views.{Status, complete, held, unheard}
 use Rattle.lent_memory.specs.Meaning.{blank, clamp, recordOf, rowSize, watchMeant, watchesMeant}
 use Rattle.lent_memory.specs.Changes.{changedAt, compared}
 use Rattle.lent_memory.specs.declared.records.Book.{Book}
@@ -44,7 +44,7 @@ RowsFit n size = clamp 64 n * rowSize ≤ size
 abbrev pub SmallStatus : Outcome Status → Type 0
 SmallStatus (refused k) = Unit {0}
 SmallStatus (result unheard) = Unit {0}
-SmallStatus (result (part c n)) = (c < 4294967296) × (n < 4294967296)
+SmallStatus (result (held c n)) = (c < 4294967296) × (n < 4294967296)
 SmallStatus (result (complete n)) = n < 4294967296
 
 abbrev pub SmallPart : Outcome Part → Type 0

@@ -9,7 +9,7 @@ use Rattle.part.specs.declared.Part.{Part}
 use Rattle.refusal.specs.Outcomes.{Outcome, refused, result}
 use Rattle.refusal.specs.Outputs.{noValue}
 use Rattle.shelf_state.specs.declared.records.Asked.{Asked}
-use Rattle.shelf.specs.Answers.{Status, complete, part, unheard}
+use Rattle.shelf.specs.Views.{Status, complete, held, unheard}
 use Rattle.lent_memory.specs.Meaning.{numberAt}
 
 -- ---- a question: PID, table_id, extension, and a quota or a section's number. An extension that does not fit its field makes the PID
@@ -23,7 +23,7 @@ amountIn q = numberAt q 3
 -- ---- a reply: a code and two values, of which a blank has none: not 0. A refusal leaves it as it was
 abbrev pub statusNumbers : Status → List ℕ
 statusNumbers unheard = 1 ∷ noValue ∷ noValue ∷ []
-statusNumbers (part c n) = 2 ∷ c ∷ n ∷ []
+statusNumbers (held c n) = 2 ∷ c ∷ n ∷ []
 statusNumbers (complete n) = 3 ∷ n ∷ n ∷ []
 
 abbrev pub partNumbers : Part → List ℕ

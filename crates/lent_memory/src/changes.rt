@@ -15,7 +15,8 @@ ghost use Prim.Native.Nat.{_<_, _≤_, _+_, _*_};
 ghost use lib.ListN.{length};
 ghost use Rattle.logic.specs.Choices.{pick};
 ghost use Rattle.lent_memory.specs.Meaning.{rowSize};
-ghost use Rattle.lent_memory.specs.Changes.{equalBool, equalEdition, equalWatch, equalPlace, changedAt, writeRow, rowsAfter};
+ghost use Rattle.logic.specs.Inner.{equalBool};
+ghost use Rattle.lent_memory.specs.Changes.{equalEdition, equalWatch, equalPlace, changedAt, writeRow, rowsAfter};
 ghost use Rattle.lent_memory.specs.Inner.{endingOf, RowsFit};
 
 fn equal_bool(a: bool, b: bool) -> bool

@@ -12,7 +12,7 @@ use Rattle.refusal.specs.Outcomes.{result}
 use Rattle.kind.specs.declared.Kind.{Kind}
 use Rattle.kind.specs.declared.Kind.the-variants.{Eit}
 use Rattle.kind.specs.Kinds.{limitsOf, kindOf}
-use Rattle.format.specs.Lawful.{Bytes}
+use Rattle.format.specs.Repeats.{Bytes}
 use Rattle.format.specs.Formats.{walks}
 use Rattle.strings.specs.Places.{textAt}
 use Rattle.eit.specs.declared.event.Title.the-variants.{Text}
@@ -23,7 +23,7 @@ use Rattle.eit.specs.Inner.{Events}
 use Rattle.eit.proofs.EventLaws.{title-sound}
 use Rattle.eit.proofs.EventsLaws.{body-events, events-step}
 use Rattle.section.specs.declared.header.Header.{Header}
-use Rattle.section.specs.Bodies.{bodyOf}
+use Rattle.section.specs.Walked.{bodyOf}
 use Rattle.section.specs.Sections.{bodyWalk, sectionBy}
 use Rattle.section.proofs.SectionLaws.{Passed, any-header-passed, section-header, section-walked}
 use Rattle.lines.specs.Lines.{eventLine, eventLines, eventsShown, restShown}

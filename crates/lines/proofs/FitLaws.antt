@@ -10,19 +10,20 @@ use Rattle.bytes_at.specs.declared.Walk.{Walk}
 use Rattle.bytes_at.specs.declared.Walk.the-variants.{To, Bad}
 use Rattle.bytes_at.specs.Fields.{byteAt}
 use Rattle.refusal.specs.Numbers.{numberOf}
-use Rattle.refusal.specs.Outcomes.{Outcome, refused, result}
+use Rattle.refusal.specs.Outcomes.{Outcome, refused, result, after}
+use Rattle.bytes_at.specs.Walks.{standing}
 use Rattle.refusal.proofs.TestLaws.{either-way}
 use Rattle.kind.specs.declared.Kind.{Kind}
 use Rattle.kind.specs.declared.Kind.the-variants.{Mgt, Tvct, Rrt, Eit, Ett}
 use Rattle.kind.specs.declared.Found.{Found}
 use Rattle.kind.specs.declared.Found.the-variants.{Is, Nothing}
 use Rattle.kind.specs.Kinds.{limitsOf, kindOf}
-use Rattle.format.specs.Lawful.{Bytes}
+use Rattle.format.specs.Repeats.{Bytes}
 use Rattle.format.specs.Laws.OfBytes.{part-bytes}
 use Rattle.format.specs.Laws.OfValues.{vals-fit}
 use Rattle.section.specs.declared.header.Header.{Header}
 use Rattle.section.specs.Headers.{headerBy, ofKind, lengthTests, checksumTest, numberTests}
-use Rattle.section.specs.Sections.{bodyWalk, byWalk, bodyTest, withBody, verdictBy, plainly, sectionBy}
+use Rattle.section.specs.Sections.{bodyWalk, bodyTest, sectionBy}
 use Rattle.strings.specs.Places.{textAt, textEnd}
 use Rattle.descriptor.specs.Places.{listEnd}
 use Rattle.eit.specs.declared.event.Event.{Event}
@@ -117,17 +118,18 @@ module _ (s : List ℕ) (z : Bytes s) where
   unfolding headerBy
   header-told = either-way Told 1 _ _ (omega arith) (kind-told (kindOf (byteAt s 0)))
 
-  body-told : (w : Walk) (h : Header) → Told (result h) → Told (plainly (byWalk w h))
+  body-told : (w : Walk) (h : Header) → Told (result h) → Told (after (standing w) (λ e. result h))
+  unfolding after standing
   body-told (To e) h t = t
   body-told (Bad x) h t = omega arith
 
-  with-told : (o : Outcome Header) → Told o → Told (plainly (withBody o s))
-  unfolding withBody bodyTest
+  with-told : (o : Outcome Header) → Told o → Told (after o (λ h. bodyTest h s))
+  unfolding after bodyTest
   with-told (refused k) t = t
   with-told (result h) t = body-told (bodyWalk (h .kind) s) h t
 
   section-told : Told (sectionBy kindOf s)
-  unfolding sectionBy verdictBy
+  unfolding sectionBy
   section-told = with-told (headerBy kindOf s) header-told
 
 -- ---- the lines of a section

@@ -6,7 +6,7 @@ use mathlib.Core.List.{List}
 use native.Mathlib.Omega.{arith}
 use lib.ListN.{length, take, drop}
 use lib.Seq.{sets-eq, take-at}
-use Rattle.format.specs.Lawful.{Bytes}
+use Rattle.format.specs.Repeats.{Bytes}
 use Rattle.record.specs.Records.{headSize, toCome, whole}
 use Rattle.shown.proofs.BothLaws.{lt-either, eq-either}
 use Rattle.lines.specs.Records.{lastLine, badLines}

@@ -11,7 +11,8 @@ use lib.ListN.{getD, length, length-set, set}
 use lib.Seq.{getD-set-other, getD-set-same}
 use borrow.Author.Tests.{eq-eqb, eqb-false, eqb-true, le-leb, le-ltb, lt-leb, lt-ltb, ltb-false, ltb-true, ne-eqb}
 use Rattle.logic.specs.Choices.{pick}
-use Rattle.logic.specs.Loops.{_&_, _⇒_, all, any, each, first, sum}
+use Rattle.logic.specs.Loops.{_&_, _⇒_, all, any, first, sum}
+use Rattle.logic.specs.Inner.{each, equalBool}
 
 -- ---- truth values
 pub both : (b : Bool) → (b ≡ true) ⊎ (b ≡ false)
@@ -48,6 +49,12 @@ pub and-right : (a b : Bool) → (a & b) ≡ true → b ≡ true
 unfolding _&_
 and-right true b e = e
 and-right false b e = true-false false e refl
+
+pub from-equal : (a b : Bool) → equalBool a b ≡ true → a ≡ b
+unfolding equalBool
+from-equal true b e = sym e
+from-equal false true e = cc
+from-equal false false e = refl
 
 pub and-i : (a b : Bool) → a ≡ true → b ≡ true → (a & b) ≡ true
 unfolding _&_

@@ -1,3 +1,4 @@
 -- The definitions, in reading order.
 pub mod Choices
 pub mod Loops
+pub mod Inner

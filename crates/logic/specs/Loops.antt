@@ -1,8 +1,6 @@
 -- Statements over the numbers below a bound, as definitions that compute: what is said of all records, or of all places.
 use Prim.Native.Nat.{ℕ, zero, suc, _+_}
 use mathlib.Core.Bool.{Bool, true, false}
-use mathlib.Core.List.{List}
-use lib.ListN.{getD, set}
 use lib.Dec.{ltb}
 use Rattle.logic.specs.Choices.{pick}
 
@@ -44,8 +42,3 @@ count n p = sum n (λ i. one (p i))
 unfoldable pub first : ℕ → (ℕ → Bool) → ℕ
 first zero p = 0
 first (suc n) p = pick (ltb (first n p) n) (first n p) (pick (p n) n (suc n))
-
--- a list whose first n elements are changed by f
-unfoldable pub each : {A : Type 0} → ℕ → (A → A) → A → List A → List A
-each zero f d l = l
-each (suc n) f d l = set (each n f d l) n (f (getD (each n f d l) n d))

@@ -96,36 +96,36 @@ pub data Mark : Type 0 where
   P13 : Mark
 
 -- what each example says
-abbrev pub Says : Mark → Type 0
-Says P1 =
+abbrev pub Shows : Mark → Type 0
+Shows P1 =
     Passes Eit 0 0 (eit11 0 0)
     × ((length (sealed (eit11 0 0)) ≡ 14)
     × ((fieldsOf (sealed (eit11 0 0)) ≡ result (record { source = 7; count = 0 }))
     × RefusedBy 4 eit10))
-Says P2 = Passes Eit 0 0 eit4093 × RefusedBy 4 eit4094
-Says P3 = Passes Tvct 0 0 tvct1021 × RefusedBy 4 tvct1022
-Says P4 = Passes Mgt 0 0 mgt14 × RefusedBy 4 mgt13
-Says P5 = Passes Rrt 0 0 rrt18 × RefusedBy 4 rrt17
-Says P6 = Passes Ett 0 0 ett15 × RefusedBy 4 ett14
-Says P7 = Passes Eit 3 3 (eit11 3 3) × RefusedBy 8 (eit11 4 3)
-Says P8 = Titled None 22 noTitle × Titled NoStrings 23 zeroTitle
-Says P9 =
+Shows P2 = Passes Eit 0 0 eit4093 × RefusedBy 4 eit4094
+Shows P3 = Passes Tvct 0 0 tvct1021 × RefusedBy 4 tvct1022
+Shows P4 = Passes Mgt 0 0 mgt14 × RefusedBy 4 mgt13
+Shows P5 = Passes Rrt 0 0 rrt18 × RefusedBy 4 rrt17
+Shows P6 = Passes Ett 0 0 ett15 × RefusedBy 4 ett14
+Shows P7 = Passes Eit 3 3 (eit11 3 3) × RefusedBy 8 (eit11 4 3)
+Shows P8 = Titled None 22 noTitle × Titled NoStrings 23 zeroTitle
+Shows P9 =
     (length teaText ≡ 11)
     × ((length teaEvent ≡ 23)
     × ((length (sealed teaSection) ≡ 37)
     × (Passes Eit 0 0 teaSection
     × (Titled (Text (record { start = 20; length = 11 })) 33 teaSection
     × (textUnits (sealed teaSection) (texts.Title 0) 0 ≡ result (ascii "Tea"))))))
-Says P10 =
+Shows P10 =
     (delivered quotaOne 4096 0x1D00 (sealed (eit11 0 0)) .outcome ≡ result tt)
     × ((keptOf (sealed (eit11 0 0)) ≡ result (sealed (eit11 0 0)))
     × ((delivered quotaOne 4096 0x1D00 (sealed (eit11 0 1)) .outcome ≡ refused 18)
     × (keptOf (sealed (eit11 0 1)) ≡ refused 22)))
-Says P11 =
+Shows P11 =
     (opens twoAndTwo 3 1 .outcome ≡ refused 21)
     × (opens (closed twoAndTwo 16384 (eitKey 0x1D00 1) .shelf) 3 2 .outcome ≡ result tt)
-Says P12 = (fieldUnits (utf16 0 []) 0 ≡ result []) × (fieldUnits (utf16 3 (0 ∷ 65 ∷ 0 ∷ [])) 0 ≡ refused 11)
-Says P13 =
+Shows P12 = (fieldUnits (utf16 0 []) 0 ≡ result []) × (fieldUnits (utf16 3 (0 ∷ 65 ∷ 0 ∷ [])) 0 ≡ refused 11)
+Shows P13 =
     (opened fourPlaces 16384 (eitKey 8191 7) 1 .outcome ≡ result tt)
     × ((opened fourPlaces 16384 (eitKey 8192 7) 1 .outcome ≡ refused 15)
     × ((delivered fourPlaces 16384 8191 (sealed (eit11 0 0)) .outcome ≡ refused 17)
@@ -141,4 +141,4 @@ marked = P1 ∷ P2 ∷ P3 ∷ P4 ∷ P5 ∷ P6 ∷ P7 ∷ P8 ∷ P9 ∷ P10 ∷ 
 -- each of a list holds
 abbrev pub AllHold : List Mark → Type 0
 AllHold [] = record {}
-AllHold (m ∷ ms) = Says m × AllHold ms
+AllHold (m ∷ ms) = Shows m × AllHold ms

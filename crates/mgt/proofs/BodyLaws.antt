@@ -9,7 +9,8 @@ use Rattle.bytes_at.specs.Walks.{many}
 use Rattle.bytes_at.proofs.WalkLaws.{then-inv, ended}
 use Rattle.format.specs.Formats.{walks, walksAll}
 use Rattle.format.proofs.FieldLaws.{fields-end}
-use Rattle.descriptor.specs.Descriptors.{list12, noTag}
+use Rattle.descriptor.specs.Descriptors.{noTag}
+use Rattle.descriptor.specs.Places.{list12}
 use Rattle.mgt.specs.Walked.{defined, tables, mgt}
 use Rattle.mgt.specs.Fields.{countAt, firstAt}
 

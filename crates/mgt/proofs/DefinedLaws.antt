@@ -10,8 +10,8 @@ use Rattle.bytes_at.proofs.WalkLaws.{then-inv}
 use Rattle.format.specs.Formats.{walks}
 use Rattle.format.proofs.FieldLaws.{fields-end}
 use Rattle.part.specs.declared.Part.{Part}
-use Rattle.descriptor.specs.Descriptors.{list12, noTag}
-use Rattle.descriptor.specs.Places.{listEnd}
+use Rattle.descriptor.specs.Descriptors.{noTag}
+use Rattle.descriptor.specs.Places.{list12, listEnd}
 use Rattle.descriptor.proofs.ListLaws.{ListPassed, list12-passed}
 use Rattle.row.specs.Rows.{partRow}
 use Rattle.row.proofs.RowLaws.{sets-append}

@@ -4,7 +4,8 @@ use mathlib.Core.Path.{_≡_, refl, sym, ap}
 use mathlib.Core.List.{List, [], _∷_, _++_}
 use native.Mathlib.Omega.{arith}
 use lib.ListN.{length, length-append}
-use Rattle.format.specs.Lawful.{Lies, Bytes, encs}
+use Rattle.format.specs.Lawful.{Lies}
+use Rattle.format.specs.Repeats.{Bytes, encs}
 use Rattle.format.specs.Laws.OfBytes.{lies-at, lies-split}
 use Rattle.format.specs.Laws.OfValues.{bytes-length}
 use Rattle.format.specs.Formats.{walksAll}
@@ -13,7 +14,8 @@ use Rattle.format.specs.Laws.OfNamed.{vals-there}
 use Rattle.format.specs.Told.{sized12, counted16}
 use Rattle.format.proofs.SizedLaws.{counted16-there}
 use Rattle.format.proofs.ListedLaws.{Stand}
-use Rattle.descriptor.specs.Descriptors.{descriptors, list12, noTag}
+use Rattle.descriptor.specs.Descriptors.{descriptors, noTag}
+use Rattle.descriptor.specs.Places.{list12}
 use Rattle.descriptor.proofs.ListLaws.{list12-there}
 use Rattle.row.specs.Rows.{partRow}
 use Rattle.mgt.specs.Format.{definedHead, headOf, headIn, DefinedFields, definedFormat, MgtFields, mgtFormat}

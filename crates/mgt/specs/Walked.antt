@@ -1,7 +1,8 @@
 -- The body of an MGT part by part, shut, for proofs: the walk that the code is held to is that of Format.antt (law `same-walk`).
 use Rattle.format.specs.Formats.{One, Format, Filling, seq, exact}
 use Rattle.format.specs.Told.{counted16}
-use Rattle.descriptor.specs.Descriptors.{list12, noTag}
+use Rattle.descriptor.specs.Descriptors.{noTag}
+use Rattle.descriptor.specs.Places.{list12}
 use Rattle.mgt.specs.Format.{definedFormat}
 
 -- a table that an MGT defines

@@ -9,10 +9,11 @@ use native.Mathlib.Nat.{eq-zero-or-pos}
 use native.Mathlib.Omega.{arith}
 use lib.Dec.{eqb}
 use borrow.Author.Tests.{eqb-true}
+use Rattle.part.specs.declared.Part.{Part}
 use Rattle.bytes_at.specs.Fields.{byteAt}
 use Rattle.logic.specs.Choices.{pick, ifEq}
 use Rattle.logic.proofs.ChoiceLaws.{lt-no}
-use Rattle.format.specs.Lawful.{Bytes}
+use Rattle.format.specs.Repeats.{Bytes}
 use Rattle.rating.specs.declared.Rating.{Rating}
 use Rattle.rating.specs.declared.Rating.the-variants.{NoAdvisory, RegionAbsent, DimensionAbsent, Value}
 use Rattle.rating.specs.declared.SoughtDescriptor.{SoughtDescriptor}
@@ -20,7 +21,7 @@ use Rattle.rating.specs.declared.SoughtDescriptor.the-variants as found
 use Rattle.rating.specs.declared.SoughtText.{SoughtText}
 use Rattle.rating.specs.declared.SoughtText.the-variants as part
 use Rattle.rating.specs.Ratings.{ratedOf, soughtDescriptor, soughtText, descriptorSize, regionSize, firstMatch, advisoryIn, regionIn, ratedByRegion, ratingIn, regionTextAt, textIn}
-use Rattle.rating.specs.Values.{Rated, noAdvisory, regionAbsent, dimensionAbsent, value, Descriptor, TextPart}
+use Rattle.rating.specs.Values.{Rated, noAdvisory, regionAbsent, dimensionAbsent, value, Descriptor}
 use Rattle.rating.proofs.FirstLaws.{first-past}
 
 -- ---- an answer's meaning is that of one answer only
@@ -53,8 +54,8 @@ found-back found.Nothing = refl
 pub found-once : (a b : SoughtDescriptor) → soughtDescriptor a ≡ soughtDescriptor b → a ≡ b
 found-once = once-by soughtDescriptor descriptorOf found-back
 
-abbrev placeOf : Option TextPart → SoughtText
-placeOf (some p) = part.Is (p .start) (p .size)
+abbrev placeOf : Option Part → SoughtText
+placeOf (some p) = part.Is (p .start) (p .length)
 placeOf none = part.Nothing
 
 part-back : (r : SoughtText) → placeOf (soughtText r) ≡ r
@@ -108,15 +109,15 @@ rating-below s region dimension end from v e =
     _ _)
 
 -- a text stands within the list
-abbrev Within : ℕ → Option TextPart → Type 0
-Within end (some t) = t .start + t .size ≤ end
+abbrev Within : ℕ → Option Part → Type 0
+Within end (some t) = t .start + t .length ≤ end
 Within end none = record {}
 
 within : (s : List ℕ) (end p : ℕ) → p + regionSize s p ≤ end → Within end (regionTextAt s p)
 unfolding regionSize
 within s end p h = omega arith
 
-pub text-within : (s : List ℕ) (region end from : ℕ) (t : TextPart) → textIn s region end from ≡ some t → t .start + t .size ≤ end
+pub text-within : (s : List ℕ) (region end from : ℕ) (t : Part) → textIn s region end from ≡ some t → t .start + t .length ≤ end
 unfolding textIn
 text-within s region end from t e =
     subst (Within end) e

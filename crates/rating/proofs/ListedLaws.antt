@@ -10,7 +10,8 @@ use borrow.Author.Tests.{eqb-true}
 use Rattle.bytes_at.specs.Fields.{byteAt}
 use Rattle.logic.specs.Choices.{pick, ifEq}
 use Rattle.logic.proofs.ChoiceLaws.{lt-no}
-use Rattle.format.specs.Lawful.{Lies, All, encs}
+use Rattle.format.specs.Lawful.{Lies}
+use Rattle.format.specs.Repeats.{All, encs}
 use Rattle.format.specs.Laws.OfBytes.{lies-split}
 use Rattle.format.specs.Listed.{firstWith, sought}
 use Rattle.rating.specs.Ratings.{firstMatch}

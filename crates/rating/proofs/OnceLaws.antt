@@ -1,6 +1,7 @@
 -- Equal meanings are equal answers.
 use mathlib.Core.Path.{_≡_, refl, sym, ap, _∙_}
 use mathlib.Core.Option.{Option, none, some}
+use Rattle.part.specs.declared.Part.{Part}
 use Rattle.rating.specs.declared.Rating.{Rating}
 use Rattle.rating.specs.declared.Rating.the-variants.{NoAdvisory, RegionAbsent, DimensionAbsent, Value}
 use Rattle.rating.specs.declared.SoughtDescriptor.{SoughtDescriptor}
@@ -8,7 +9,7 @@ use Rattle.rating.specs.declared.SoughtDescriptor.the-variants as found
 use Rattle.rating.specs.declared.SoughtText.{SoughtText}
 use Rattle.rating.specs.declared.SoughtText.the-variants as part
 use Rattle.rating.specs.Ratings.{ratedOf, soughtDescriptor, soughtText}
-use Rattle.rating.specs.Values.{Rated, noAdvisory, regionAbsent, dimensionAbsent, value, Descriptor, TextPart}
+use Rattle.rating.specs.Values.{Rated, noAdvisory, regionAbsent, dimensionAbsent, value, Descriptor}
 
 pub ratingFor : Rated → Rating
 ratingFor noAdvisory = NoAdvisory
@@ -38,9 +39,9 @@ descriptor-back (found.Is t a n) = refl
 pub descriptor-once : (x y : SoughtDescriptor) → soughtDescriptor x ≡ soughtDescriptor y → x ≡ y
 descriptor-once x y e = sym (descriptor-back x) ∙ ap descriptor-told e ∙ descriptor-back y
 
-text-told : Option TextPart → SoughtText
+text-told : Option Part → SoughtText
 text-told none = part.Nothing
-text-told (some p) = part.Is (p .start) (p .size)
+text-told (some p) = part.Is (p .start) (p .length)
 
 text-back : (x : SoughtText) → text-told (soughtText x) ≡ x
 unfolding text-told

@@ -5,21 +5,23 @@ use mathlib.Core.Logic.{inl, inr}
 use mathlib.Core.List.{List}
 use mathlib.Core.Option.{Option, none, some}
 use lib.ListN.{length}
-use Rattle.format.specs.Lawful.{Lies, Bytes}
+use Rattle.part.specs.declared.Part.{Part}
+use Rattle.format.specs.Lawful.{Lies}
+use Rattle.format.specs.Repeats.{Bytes}
 use Rattle.strings.specs.Strings.{text, sizedText}
 use Rattle.descriptor.specs.Descriptors.{region, advisory, content, descriptor, descriptors, descriptorsOf, regionBytes, descriptorBytes, contentAdvisory}
-use Rattle.rating.specs.Values.{TextPart, textFrom, textBy, regionPlace, placeFrom, textPlace}
+use Rattle.rating.specs.Values.{textFrom, textBy, regionPlace, placeFrom, textPlace}
 use Rattle.rating.proofs.ListedLaws.{sought-there}
 use Rattle.rating.proofs.ValueLaws.{text-values, advisory-values, descriptor-values}
 
 -- the text is well formed and lies at the place; or there is neither
-abbrev Stands : List ℕ → Option TextPart → Option (text .Val) → Type 0
-Stands s (some p) (some t) = text .Ok (record {}) t × (Lies (text .enc t) s (p .start) × (p .size ≡ length (text .enc t)))
+abbrev Stands : List ℕ → Option Part → Option (text .Val) → Type 0
+Stands s (some p) (some t) = text .Ok (record {}) t × (Lies (text .enc t) s (p .start) × (p .length ≡ length (text .enc t)))
 Stands s (some p) none = ⊥
 Stands s none (some t) = ⊥
 Stands s none none = record {}
 
-one-stands : (s : List ℕ) (p : TextPart) (q : Option (text .Val)) → Stands s (some p) q → (t : text .Val) × ((q ≡ some t) × Stands s (some p) (some t))
+one-stands : (s : List ℕ) (p : Part) (q : Option (text .Val)) → Stands s (some p) q → (t : text .Val) × ((q ≡ some t) × Stands s (some p) (some t))
 one-stands s p (some t) h = (t, (refl, h))
 one-stands s p none h = absurd h
 
@@ -51,9 +53,9 @@ module _ (s : List ℕ) (z : Bytes s) (x : ℕ) where
         (λ d. textFrom x (d .content)) none (record {})
         (λ a d o l. content-stands a (d .tag) (d .content) (o .1 .1 .1) (descriptor-values contentAdvisory s z a d o l .1)) from ds o l
 
-    pub text-lies : (p : TextPart) → textPlace x from (descriptorsOf contentAdvisory ds) ≡ some p
+    pub text-lies : (p : Part) → textPlace x from (descriptorsOf contentAdvisory ds) ≡ some p
         → (t : text .Val) × ((textBy x (descriptorsOf contentAdvisory ds) ≡ some t)
-        × (text .Ok (record {}) t × (Lies (text .enc t) s (p .start) × (p .size ≡ length (text .enc t)))))
+        × (text .Ok (record {}) t × (Lies (text .enc t) s (p .start) × (p .length ≡ length (text .enc t)))))
     text-lies p e = one-stands s p _ (subst (λ q. Stands s q (textBy x (descriptorsOf contentAdvisory ds))) e text-stands)
 
     pub text-none : textPlace x from (descriptorsOf contentAdvisory ds) ≡ none → textBy x (descriptorsOf contentAdvisory ds) ≡ none

@@ -9,7 +9,8 @@ use native.Mathlib.Omega.{arith}
 use lib.ListN.{length, length-append}
 use borrow.Author.Tests.{eqb-false}
 use Rattle.bytes_at.specs.Fields.{byteAt}
-use Rattle.format.specs.Lawful.{Lies, Bytes, encs}
+use Rattle.format.specs.Lawful.{Lies}
+use Rattle.format.specs.Repeats.{Bytes, encs}
 use Rattle.format.specs.Laws.OfBytes.{lies-split}
 use Rattle.format.specs.Laws.OfValues.{bytes-length}
 use Rattle.format.specs.Listed.{firstWith, nthOf}
@@ -42,7 +43,7 @@ module _ (s : List ℕ) (z : Bytes s) where
       let n = region-values s z p g o l .0 .1 in
       let e : p + (2 + 2 * byteAt s (p + 1)) ≡ p + 2 + 2 * length (g .ratings) = omega arith in
       let t = text-values s z p g o l .0 in
-      λ i. some (record { start = e i + 1; size = (ap (byteAt s) e ∙ t) i })
+      λ i. some (record { start = e i + 1; length = (ap (byteAt s) e ∙ t) i })
 
   -- ---- an advisory in a descriptor at a, asked for region x: what is told of a region's place is what is said of the region
   module _ {A : Type 0} (x : ℕ) (told : ℕ → A) (says : ℕ → region .Val → A) (absent : A)

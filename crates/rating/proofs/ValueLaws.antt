@@ -6,8 +6,9 @@ use native.Mathlib.Omega.{arith}
 use lib.ListN.{length, length-append}
 use Rattle.bytes_at.specs.Fields.{byteAt}
 use Rattle.bytes_at.proofs.BitLaws.{byte-bits, all-at, low-at}
-use Rattle.format.specs.Lawful.{Lies, Bytes, encs}
-use Rattle.format.specs.Formats.{last, lastButOne, both, through, filledBy, times}
+use Rattle.format.specs.Lawful.{Lies}
+use Rattle.format.specs.Repeats.{Bytes, encs}
+use Rattle.format.specs.Formats.{lastByte, lastButOne, both, through, filledBy, times}
 use Rattle.format.specs.Laws.OfBytes.{lies-at, lies-split}
 use Rattle.format.specs.Laws.OfValues.{bytes-length}
 use Rattle.format.specs.Values.{bits, reserved}
@@ -47,7 +48,7 @@ module _ (s : List ℕ) (z : Bytes s) (p : ℕ) (g : region .Val) (o : region .O
   region-values =
       let i = lies-split (rated .enc ((g .region, record {}), g .ratings)) (sizedText .enc (record {}, g .text)) s p l in
       let t =
-      told-there (bits 8 ∷ []) 8 2 refl last (λ v m. m) (last-tells (bits 8 ∷ []) 1 refl) (times dimension) (λ x. length x) (λ v m x o. o .0)
+      told-there (bits 8 ∷ []) 8 2 refl lastByte (λ v m. m) (last-tells (bits 8 ∷ []) 1 refl) (times dimension) (λ x. length x) (λ v m x o. o .0)
       s p (g .region, record {}) (g .ratings) (o .0) (i .0) in (
         (
           all-at s p p 0 (omega arith) 8 (byte-bits s p (z p)) ∙ ap (λ v. v .0) (t .0 .0),
@@ -86,7 +87,7 @@ module _ (judged : ℕ) (s : List ℕ) (z : Bytes s) (a : ℕ) (d : descriptor j
   unfolding descriptor content advisory
   descriptor-values =
       let t =
-      told-there (bits 8 ∷ []) 8 2 refl (both last lastButOne) (λ v m. (m, v .0)) tag-tells (filledBy 1 (content judged)) (λ x. length (content judged .enc x))
+      told-there (bits 8 ∷ []) 8 2 refl (both lastByte lastButOne) (λ v m. (m, v .0)) tag-tells (filledBy 1 (content judged)) (λ x. length (content judged .enc x))
       (λ v m x o. o .0) s a (d .tag, record {}) (d .content) o l in (
         (
           all-at s a a 0 (omega arith) 8 (byte-bits s a (z a)) ∙ ap (λ v. v .0) (t .0 .0),
@@ -108,7 +109,7 @@ module _ (s : List ℕ) (z : Bytes s) (a : ℕ) (v : advisory .Val) (o : advisor
   unfolding advisory region
   advisory-values =
       let t =
-      told-there (reserved 2 ∷ []) 6 1 refl (through (λ x. x % 2 ^ 6) last) (λ v m. m) (low8-tells (reserved 2 ∷ []) 0 2 6 refl (omega arith)) (times region)
+      told-there (reserved 2 ∷ []) 6 1 refl (through (λ x. x % 2 ^ 6) lastByte) (λ v m. m) (low8-tells (reserved 2 ∷ []) 0 2 6 refl (omega arith)) (times region)
       (λ x. length x) (λ v m x o. o .0) s (a + 2) (v .r, record {}) (v .regions) o l in (
         low-at s (a + 2) (a + 2) 0 (omega arith) 2 6 (byte-bits s (a + 2) (z (a + 2))) ∙ t .0 .1,
         lies-at (encs (region .enc) (v .regions)) s (a + 2 + 1) (a + 3) (omega arith) (t .1),

@@ -3,6 +3,7 @@
 use Prim.Native.Nat.{ℕ, zero, suc, _+_, _*_, _%_}
 use mathlib.Core.List.{List}
 use mathlib.Core.Option.{Option, none, some}
+use Rattle.part.specs.declared.Part.{Part}
 use Rattle.bytes_at.specs.Fields.{byteAt}
 use Rattle.logic.specs.Choices.{ifLt, ifEq}
 use Rattle.descriptor.specs.Descriptors.{contentAdvisory}
@@ -12,7 +13,7 @@ use Rattle.rating.specs.declared.SoughtDescriptor.{SoughtDescriptor}
 use Rattle.rating.specs.declared.SoughtDescriptor.the-variants as found
 use Rattle.rating.specs.declared.SoughtText.{SoughtText}
 use Rattle.rating.specs.declared.SoughtText.the-variants as part
-use Rattle.rating.specs.Values.{Rated, noAdvisory, regionAbsent, dimensionAbsent, value, Descriptor, TextPart}
+use Rattle.rating.specs.Values.{Rated, noAdvisory, regionAbsent, dimensionAbsent, value, Descriptor}
 
 -- ---- what the code's answers mean
 abbrev pub ratedOf : Rating → Rated
@@ -25,8 +26,8 @@ abbrev pub soughtDescriptor : SoughtDescriptor → Option Descriptor
 soughtDescriptor (found.Is t a n) = some (record { tag = t; start = a; size = n })
 soughtDescriptor found.Nothing = none
 
-abbrev pub soughtText : SoughtText → Option TextPart
-soughtText (part.Is a n) = some (record { start = a; size = n })
+abbrev pub soughtText : SoughtText → Option Part
+soughtText (part.Is a n) = some (record { start = a; length = n })
 soughtText part.Nothing = none
 
 -- ---- how many bytes a thing takes
@@ -76,11 +77,11 @@ unfoldable pub ratingIn : List ℕ → ℕ → ℕ → ℕ → ℕ → Rated
 ratingIn s region dimension end from = advisoryIn s end from (ratedByAdvisory s region dimension) noAdvisory
 
 -- the text of the region at p
-abbrev pub regionTextAt : List ℕ → ℕ → Option TextPart
-regionTextAt s p = some (record { start = p + ratedSize s p + 1; size = byteAt s (p + ratedSize s p) })
+abbrev pub regionTextAt : List ℕ → ℕ → Option Part
+regionTextAt s p = some (record { start = p + ratedSize s p + 1; length = byteAt s (p + ratedSize s p) })
 
 -- the text of the first such region in the first content advisory
-unfoldable pub textIn : List ℕ → ℕ → ℕ → ℕ → Option TextPart
+unfoldable pub textIn : List ℕ → ℕ → ℕ → ℕ → Option Part
 textIn s region end from = advisoryIn s end from (λ a. regionIn s region a (regionTextAt s) none) none
 
 -- the descriptor at a place

@@ -5,6 +5,7 @@ use mathlib.Core.Logic.{_⊎_, inl, inr}
 use mathlib.Core.List.{List}
 use mathlib.Core.Option.{Option, none, some}
 use lib.ListN.{length}
+use Rattle.part.specs.declared.Part.{Part}
 use Rattle.format.specs.Listed.{nthOf, firstWith, sought}
 use Rattle.strings.specs.Strings.{text}
 use Rattle.descriptor.specs.Descriptors.{RegionFields, AdvisoryFields, DescriptorFields, regionBytes, contentBytes, descriptorBytes, contentAdvisory}
@@ -20,11 +21,6 @@ pub data Rated : Type 0 where
 -- a descriptor's tag, and where its content stands
 pub record Descriptor : Type 0 where
   pub tag : ℕ
-  pub start : ℕ
-  pub size : ℕ
-
--- where a text stands
-pub record TextPart : Type 0 where
   pub start : ℕ
   pub size : ℕ
 
@@ -51,16 +47,16 @@ unfoldable pub textBy : ℕ → List DescriptorFields → Option (text .Val)
 textBy region ds = sought (λ d. d .tag) contentAdvisory (λ d. textFrom region (d .content)) none ds
 
 -- where the text of a region at p stands: behind region and count, its ratings of two bytes each, and the text's length
-unfoldable pub regionPlace : ℕ → RegionFields → Option TextPart
-regionPlace p g = some (record { start = p + 2 + 2 * length (g .ratings) + 1; size = length (text .enc (g .text)) })
+unfoldable pub regionPlace : ℕ → RegionFields → Option Part
+regionPlace p g = some (record { start = p + 2 + 2 * length (g .ratings) + 1; length = length (text .enc (g .text)) })
 
 -- where that text stands in an advisory whose descriptor is at a, the regions being behind tag, length and their count; and in a list
 -- that begins at `from`
-unfoldable pub placeFrom : ℕ → ℕ → AdvisoryFields ⊎ List ℕ → Option TextPart
+unfoldable pub placeFrom : ℕ → ℕ → AdvisoryFields ⊎ List ℕ → Option Part
 placeFrom region a (inl v) = firstWith regionBytes (λ g. g .region) region regionPlace none (a + 3) (v .regions)
 placeFrom region a (inr bytes) = none
 
-unfoldable pub textPlace : ℕ → ℕ → List DescriptorFields → Option TextPart
+unfoldable pub textPlace : ℕ → ℕ → List DescriptorFields → Option Part
 textPlace region from ds =
     firstWith (descriptorBytes contentAdvisory) (λ d. d .tag) contentAdvisory (λ a d. placeFrom region a (d .content)) none from ds
 

@@ -1,9 +1,10 @@
 -- Equal meanings are equal answers.
 use mathlib.Core.Path.{_≡_, refl, ap}
+use Rattle.part.specs.declared.Part.{Part}
 use Rattle.refusal.specs.Outcomes.{Outcome, refused, result}
 use Rattle.refusal.proofs.NumberLaws.{numbered, numbered-back}
 use Rattle.refusal.proofs.OutcomeLaws.{once-by}
-use Rattle.rating.specs.Values.{Rated, Descriptor, TextPart}
+use Rattle.rating.specs.Values.{Rated, Descriptor}
 use Rattle.rating.proofs.OnceLaws.{ratingFor, rating-back as rated-back}
 use Rattle.mgt.specs.declared.table.Table.{Table as Mgt}
 use Rattle.mgt.specs.declared.defined.Defined.{Defined}
@@ -179,9 +180,9 @@ descriptor-back (descriptor-answers.Is t p) = refl
 pub descriptor-once : (x y : DescriptorAnswer) → eits.descriptorOutcome x ≡ eits.descriptorOutcome y → x ≡ y
 descriptor-once = once-by eits.descriptorOutcome descriptor-told descriptor-back
 
-text-told : Outcome TextPart → TextAnswer
+text-told : Outcome Part → TextAnswer
 text-told (refused n) = text-answers.Refused (numbered n)
-text-told (result x) = text-answers.Is (record { start = x .start; length = x .size })
+text-told (result x) = text-answers.Is x
 
 text-back : (x : TextAnswer) → text-told (eits.textOutcome x) ≡ x
 unfolding text-told

@@ -6,13 +6,14 @@ use mathlib.Core.Option.{some}
 use native.Mathlib.Omega.{arith}
 use lib.ListN.{length, take, drop, length-drop}
 use lib.Seq.{length-take-le}
-use Rattle.bytes_at.specs.Walks.{Stands}
+use Rattle.part.specs.declared.Part.{Part}
+use Rattle.bytes_at.specs.Inner.{Stands}
 use Rattle.refusal.specs.Outcomes.{result}
 use Rattle.kind.specs.declared.Kind.the-variants.{Ett}
 use Rattle.kind.specs.Kinds.{limitsOf, onlyOf}
 use Rattle.format.specs.Formats.{walks}
 use Rattle.part.specs.Parts.{endOf, bytesIn}
-use Rattle.rating.specs.Values.{Descriptor, TextPart}
+use Rattle.rating.specs.Values.{Descriptor}
 use Rattle.rating.proofs.DescriptorLaws.{descriptor-within}
 use Rattle.rating.proofs.AnswerLaws.{text-within}
 use Rattle.eit.specs.Walked.{event}
@@ -22,7 +23,7 @@ use Rattle.eit.proofs.EventLaws.{title-sound, descriptors-sound}
 use Rattle.ett.specs.Fields.{fieldsAt}
 use Rattle.ett.proofs.TextLaws.{body-text}
 use Rattle.section.specs.declared.header.Header.{Header}
-use Rattle.section.specs.Bodies.{bodyOf}
+use Rattle.section.specs.Walked.{bodyOf}
 use Rattle.section.specs.Sections.{sectionBy}
 use Rattle.section.proofs.SectionLaws.{section-sound}
 use Rattle.entry.specs.declared.Entry.the-variants.{Event}
@@ -54,11 +55,11 @@ module _ (s : List ℕ) (i a : ℕ) (found : spotOf Event s i ≡ result a) wher
       let l = descriptors-sound s (length s - 4) a (stood .0) (stood .1) .0 in
       all-there s (d .start) (d .size) (omega (arith, l, descriptor-within s (endOf (descriptorsAt s a)) k (descriptorsAt s a .start) d f))
 
-  pub advisory-whole : (region : ℕ) (t : TextPart) → advisoryTextAt s a region ≡ some t → length (take (t .size) (drop (t .start) s)) ≡ t .size
+  pub advisory-whole : (region : ℕ) (t : Part) → advisoryTextAt s a region ≡ some t → length (take (t .length) (drop (t .start) s)) ≡ t .length
   unfolding advisoryTextAt
   advisory-whole region t f =
       let l = descriptors-sound s (length s - 4) a (stood .0) (stood .1) .0 in
-      all-there s (t .start) (t .size) (omega (arith, l, text-within s region (endOf (descriptorsAt s a)) (descriptorsAt s a .start) t f))
+      all-there s (t .start) (t .length) (omega (arith, l, text-within s region (endOf (descriptorsAt s a)) (descriptorsAt s a .start) t f))
 
 -- and the text of an ETT
 pub text-whole : (s : List ℕ) (h : Header) (extension : ℕ) → sectionBy (onlyOf Ett) s ≡ result h

@@ -3,6 +3,7 @@ use Prim.Native.Nat.{ℕ}
 use mathlib.Core.Bool.{Bool}
 use mathlib.Core.List.{List}
 use lib.ListN.{length}
+use Rattle.part.specs.declared.Part.{Part}
 use Rattle.refusal.specs.Numbers.{numberOf}
 use Rattle.refusal.specs.Outcomes.{Outcome, refused, result, after, orRefuse, orNone}
 use Rattle.kind.specs.Kinds.{limitsOf, onlyOf}
@@ -11,7 +12,7 @@ use Rattle.kind.specs.declared.Kind.the-variants.{Eit}
 use Rattle.format.specs.Formats.{walksAll}
 use Rattle.descriptor.specs.Descriptors.{contentAdvisory, descriptors as descriptorList}
 use Rattle.rating.specs.Ratings.{ratedOf, ratingIn, descriptorIn, textIn}
-use Rattle.rating.specs.Values.{Rated, Descriptor, TextPart}
+use Rattle.rating.specs.Values.{Rated, Descriptor}
 use Rattle.eit.specs.declared.table.Table.{Table}
 use Rattle.eit.specs.declared.event.Event.{Event}
 use Rattle.eit.specs.Fields.{fieldsAt, eventAt}
@@ -63,11 +64,11 @@ unfoldable pub descriptorOf : List ℕ → ℕ → ℕ → Outcome Descriptor
 descriptorOf s i k = after (spotOf entries.Event s i) (λ a. orNone (eventDescriptor s a k))
 
 -- the text of the first such region in the first content advisory
-abbrev pub textOutcome : TextAnswer → Outcome TextPart
+abbrev pub textOutcome : TextAnswer → Outcome Part
 textOutcome (texts.Refused k) = refused (numberOf k)
-textOutcome (texts.Is p) = result (record { start = p .start; size = p .length })
+textOutcome (texts.Is p) = result p
 
-unfoldable pub advisoryTextOf : List ℕ → ℕ → ℕ → Outcome TextPart
+unfoldable pub advisoryTextOf : List ℕ → ℕ → ℕ → Outcome Part
 advisoryTextOf s i region = after (spotOf entries.Event s i) (λ a. orNone (advisoryTextAt s a region))
 
 -- ---- the same of an event's descriptor list by itself: 9 where it is not filled exactly, so that a broken list is never "absent"
@@ -83,5 +84,5 @@ listRating l region dimension = ifFilled l (result (ratingIn l region dimension 
 abbrev pub listDescriptor : List ℕ → ℕ → Outcome Descriptor
 listDescriptor l k = ifFilled l (orNone (descriptorIn l (length l) k 0))
 
-abbrev pub listText : List ℕ → ℕ → Outcome TextPart
+abbrev pub listText : List ℕ → ℕ → Outcome Part
 listText l region = ifFilled l (orNone (textIn l region (length l) 0))

@@ -14,7 +14,7 @@ use Rattle.refusal.specs.Outcomes.{refused, result}
 use Rattle.refusal.proofs.TestLaws.{lets-le, stops-le}
 use Rattle.kind.specs.Kinds.{limitsOf, onlyOf}
 use Rattle.format.specs.Formats.{walks}
-use Rattle.format.specs.Lawful.{Bytes}
+use Rattle.format.specs.Repeats.{Bytes}
 use Rattle.strings.specs.Places.{textEnd}
 use Rattle.row.proofs.RowLaws.{sets-append}
 use Rattle.mgt.proofs.DefinedLaws.{defined-ends, row-six}

@@ -8,7 +8,7 @@ use lib.ListN.{length, length-append}
 use lib.Seq.{sets, length-sets}
 use Rattle.refusal.specs.Outcomes.{refused, result}
 use Rattle.refusal.proofs.TestLaws.{lets-le, stops-le}
-use Rattle.format.specs.Lawful.{Bytes}
+use Rattle.format.specs.Repeats.{Bytes}
 use Rattle.strings.specs.Places.{textEnd}
 use Rattle.row.proofs.RowLaws.{sets-append}
 use Rattle.rrt.specs.Fields.{valuesAt, firstValueAt, valueEnd, valuesEnd, dimensionEnd, valueRow}

@@ -2,7 +2,8 @@
 use Prim.Native.Nat.{ℕ, _-_, _≤_}
 use mathlib.Core.List.{List}
 use lib.ListN.{length}
-use Rattle.bytes_at.specs.Walks.{many, Stands}
+use Rattle.bytes_at.specs.Walks.{many}
+use Rattle.bytes_at.specs.Inner.{Stands}
 use Rattle.format.specs.Formats.{walks}
 use Rattle.entry.specs.Entries.{formatOf}
 use Rattle.rows.specs.declared.Row.{Row}

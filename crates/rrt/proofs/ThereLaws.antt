@@ -4,7 +4,8 @@ use mathlib.Core.Path.{_≡_, refl, sym, ap, _∙_}
 use mathlib.Core.List.{List, [], _∷_, _++_}
 use native.Mathlib.Omega.{arith}
 use lib.ListN.{length, length-append}
-use Rattle.format.specs.Lawful.{Lies, Bytes, encs}
+use Rattle.format.specs.Lawful.{Lies}
+use Rattle.format.specs.Repeats.{Bytes, encs}
 use Rattle.format.specs.Laws.OfBytes.{lies-at, lies-split}
 use Rattle.format.specs.Laws.OfValues.{bytes-length}
 use Rattle.format.specs.Formats.{walksAll}
@@ -16,7 +17,8 @@ use Rattle.part.specs.Parts.{endOf}
 use Rattle.strings.specs.Strings.{text, sizedText}
 use Rattle.strings.specs.Places.{textAt, textEnd}
 use Rattle.strings.proofs.TextLaws.{text-there, text-end-there}
-use Rattle.descriptor.specs.Descriptors.{descriptors, list10, noTag}
+use Rattle.descriptor.specs.Descriptors.{descriptors, noTag}
+use Rattle.descriptor.specs.Places.{list10}
 use Rattle.descriptor.proofs.ListLaws.{list10-there}
 use Rattle.row.specs.Rows.{partRow}
 use Rattle.rrt.specs.declared.dimension.Dimension.{Dimension}

@@ -17,7 +17,8 @@ use Rattle.format.proofs.FieldLaws.{fields-end, merge}
 use Rattle.strings.specs.Strings.{sizedText}
 use Rattle.strings.specs.Places.{textEnd}
 use Rattle.strings.proofs.TextLaws.{text-end, text-inside}
-use Rattle.descriptor.specs.Descriptors.{list10, noTag}
+use Rattle.descriptor.specs.Descriptors.{noTag}
+use Rattle.descriptor.specs.Places.{list10}
 use Rattle.rrt.specs.Walked.{value, dimension, dimensions, dimensionsAndList, rrt}
 use Rattle.rrt.specs.Fields.{countAt, firstAt, valuesAt, firstValueAt, valueEnd, valuesEnd, dimensionEnd}
 

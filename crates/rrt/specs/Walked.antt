@@ -2,7 +2,8 @@
 use Rattle.format.specs.Formats.{One, Format, Filling, seq, exact}
 use Rattle.format.specs.Told.{notNone}
 use Rattle.strings.specs.Strings.{sizedText}
-use Rattle.descriptor.specs.Descriptors.{descriptors, list10, noTag}
+use Rattle.descriptor.specs.Descriptors.{descriptors, noTag}
+use Rattle.descriptor.specs.Places.{list10}
 use Rattle.rrt.specs.Format.{valueFormat, dimensionFormat}
 
 unfoldable pub value : Format One

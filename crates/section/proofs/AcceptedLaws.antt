@@ -12,11 +12,11 @@ use Rattle.checksum.proofs.Sealing.{resealed}
 use Rattle.refusal.specs.Outcomes.{result}
 use Rattle.kind.specs.declared.Kind.{Kind}
 use Rattle.kind.specs.Kinds.{limitsOf, tableIdOf, onlyOf}
-use Rattle.format.specs.Lawful.{part, Bytes}
+use Rattle.format.specs.Repeats.{Bytes}
 use Rattle.format.specs.Laws.OfBytes.{part-length}
 use Rattle.format.specs.Laws.OfValues.{vals-fit, vals-number, bytes-part}
 use Rattle.format.specs.Values.{number, bytesOf, valsAt}
-use Rattle.format.proofs.FormatLaws.{accepted-all}
+use Rattle.format.proofs.FormatLaws.{between, accepted-all}
 use Rattle.section.specs.declared.header.Header.{Header}
 use Rattle.section.specs.Bodies.{bodyFormat}
 use Rattle.section.specs.Headers.{tableId, syntaxIndicator, privateIndicator}
@@ -50,7 +50,7 @@ module _ (k : Kind) (s : List ℕ) (z : Bytes s) (h : Header) (q : sectionBy (on
       let v = sym (ap (λ b. bodyFormat k .walk (record {}) s (length s - 4) b) (known k .body)) ∙ sym (same-walk k s (length s - 4) (limitsOf k .body)) ∙ w .1 in
       v ∙ ap To ((bodyFormat k .law (record {})) .whole s (length s - 4) 9 (w .0) v)
 
-  body-value : (x : bodyFormat k .Val) × (bodyFormat k .Ok (record {}) x × (part s 9 (length s - 4) ≡ bodyFormat k .enc x))
+  body-value : (x : bodyFormat k .Val) × (bodyFormat k .Ok (record {}) x × (between s 9 (length s - 4) ≡ bodyFormat k .enc x))
   body-value = let r = room in accepted-all s (length s - 4) 9 (omega arith) (omega arith) z (bodyFormat k) (record {}) .0 body-walk
 
   abbrev header : HeaderFields
@@ -124,7 +124,7 @@ module _ (k : Kind) (s : List ℕ) (z : Bytes s) (h : Header) (q : sectionBy (on
       let r = room in
       let b = body-value .1 .1 in
       let n : 9 + (length s - 4 - 9) ≡ length s - 4 = omega arith in
-      let t : take (length s - 4) s ≡ take 9 s ++ part s 9 (length s - 4) = sym (ap (λ n. take n s) n) ∙ take-add 9 (length s - 4 - 9) s in
+      let t : take (length s - 4) s ≡ take 9 s ++ between s 9 (length s - 4) = sym (ap (λ n. take n s) n) ∙ take-add 9 (length s - 4 - 9) s in
       sym (resealed s (length s - 4) z (omega arith) (passed .1 .register-zero)) ∙ ap sealed (t ∙ (λ i. sym head-bytes i ++ b i))
 
 -- what is accepted, of one kind

@@ -10,7 +10,7 @@ use lib.ListN.{length}
 use borrow.Author.Tests.{eqb-true}
 use Rattle.logic.specs.Choices.{pick, ifEq}
 use Rattle.logic.proofs.ChoiceLaws.{eq-yes}
-use Rattle.refusal.specs.Outcomes.{result, orRefuse}
+use Rattle.refusal.specs.Outcomes.{result, after, orRefuse}
 use Rattle.refusal.proofs.OutcomeLaws.{not-both}
 use Rattle.refusal.proofs.TestLaws.{passed-le}
 use Rattle.kind.specs.declared.Kind.{Kind}
@@ -18,10 +18,10 @@ use Rattle.kind.specs.declared.Kind.the-variants.{Mgt, Tvct, Rrt, Eit, Ett}
 use Rattle.kind.specs.declared.Found.{Found}
 use Rattle.kind.specs.declared.Found.the-variants.{Is, Nothing}
 use Rattle.kind.specs.Kinds.{tableIdOf, onlyOf, kindOf}
-use Rattle.format.specs.Lawful.{Bytes}
+use Rattle.format.specs.Repeats.{Bytes}
 use Rattle.section.specs.declared.header.Header.{Header}
 use Rattle.section.specs.Headers.{tableId, headerBy, ofKind}
-use Rattle.section.specs.Sections.{withBody, verdictBy, plainly, sectionBy}
+use Rattle.section.specs.Sections.{bodyTest, sectionBy}
 use Rattle.section.specs.Encoding.{Section, encode, WellFormed, headerOf}
 use Rattle.section.proofs.SectionLaws.{header-passed, section-header}
 use Rattle.section.proofs.AcceptedLaws.{exactly}
@@ -56,8 +56,8 @@ unfolding onlyOf
 agree s k e = ap kindOf e ∙ id-found k ∙ eq-yes (tableId s) (tableIdOf k) (Is k) Nothing e refl
 
 by : (f g : ℕ → Found) (s : List ℕ) → f (tableId s) ≡ g (tableId s) → sectionBy f s ≡ sectionBy g s
-unfolding sectionBy verdictBy headerBy
-by f g s e = ap (λ x. plainly (withBody (orRefuse 1 (leb 3 (length s)) (ofKind s x)) s)) e
+unfolding sectionBy headerBy
+by f g s e = ap (λ (x : Found). after (orRefuse 1 (leb 3 (length s)) (ofKind s x)) (λ h. bodyTest h s)) e
 
 some-kind : (f : Found) (s : List ℕ) (h : Header) → ofKind s f ≡ result h → (k : Kind) × (f ≡ Is k)
 unfolding ofKind

@@ -5,13 +5,16 @@ use mathlib.Core.List.{List, _++_, append-assoc}
 use native.Mathlib.Omega.{arith}
 use lib.ListN.{length, take, drop, length-append}
 use lib.Seq.{take-at, drop-at}
+use Rattle.bytes_at.specs.declared.Walk.{Walk}
 use Rattle.bytes_at.specs.declared.Walk.the-variants.{To}
 use Rattle.checksum.specs.Register.{register, fourBytes, sealed}
 use Rattle.checksum.proofs.Sealing.{sealed-sound}
-use Rattle.refusal.specs.Outcomes.{result}
+use Rattle.refusal.specs.Outcomes.{Outcome, result, after}
+use Rattle.bytes_at.specs.Walks.{standing}
 use Rattle.kind.specs.declared.Kind.{Kind}
 use Rattle.kind.specs.Kinds.{limitsOf, onlyOf}
-use Rattle.format.specs.Lawful.{Lies, Bytes}
+use Rattle.format.specs.Lawful.{Lies}
+use Rattle.format.specs.Repeats.{Bytes}
 use Rattle.format.specs.Laws.OfBytes.{bytes-append, same-front}
 use Rattle.format.specs.Laws.OfValues.{number-lt, bytes-bytes, bytes-length}
 use Rattle.format.specs.Values.{Vals, Fit, number, bytesOf, valsAt}
@@ -19,7 +22,7 @@ use Rattle.format.specs.Laws.OfNamed.{vals-there}
 use Rattle.section.specs.declared.header.Header.{Header}
 use Rattle.section.specs.Bodies.{bodyFormat}
 use Rattle.section.specs.Headers.{headerIn, headerBy}
-use Rattle.section.specs.Sections.{bodyWalk, byWalk, bodyTest, withBody, verdictBy, plainly, sectionBy}
+use Rattle.section.specs.Sections.{bodyWalk, bodyTest, sectionBy}
 use Rattle.section.specs.Encoding.{headerHead, HeaderFields, Section, headFor, unsealed, encodeWith, bodyBytes, encode, WellFormed, headerOf}
 use Rattle.section.proofs.HeaderLaws.{Are, header-bits}
 use Rattle.section.proofs.KindLaws.{known, same-walk}
@@ -95,8 +98,8 @@ encode-bytes k y o =
 -- ---- it is accepted
 stands : (k : Kind) (s : List ℕ) (h : Header) (e : ℕ) → headerBy (onlyOf k) s ≡ result h → bodyWalk (h .kind) s ≡ To e
     → sectionBy (onlyOf k) s ≡ result h
-unfolding sectionBy verdictBy withBody bodyTest
-stands k s h e p q = ap (λ o. plainly (withBody o s)) p ∙ ap (λ w. plainly (byWalk w h)) q
+unfolding sectionBy bodyTest after standing
+stands k s h e p q = ap (λ (o : Outcome Header). after o (λ g. bodyTest g s)) p ∙ ap (λ (w : Walk). after (standing w) (λ x. result h)) q
 
 module _ (k : Kind) (y : Section k) (o : WellFormed k y) where
   are : Are (encode y) (headOf k y)

@@ -13,7 +13,8 @@ use Rattle.tvct.proofs.ThereLaws as tvcts
 use Rattle.rrt.proofs.ThereLaws as rrts
 use Rattle.eit.proofs.ThereLaws as eits
 use Rattle.ett.proofs.FieldLaws as etts
-use Rattle.section.specs.Bodies.{bodyOf, bodyFormat}
+use Rattle.section.specs.Bodies.{bodyFormat}
+use Rattle.section.specs.Walked.{bodyOf}
 
 pub start-small : (k : Kind) → limitsOf k .body < 4096
 start-small Mgt = omega arith

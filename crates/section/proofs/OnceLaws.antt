@@ -8,8 +8,8 @@ use Rattle.section.specs.declared.header.Head.{Head}
 use Rattle.section.specs.declared.header.Head.the-variants.{Refused, Passes}
 use Rattle.section.specs.declared.inner.Inspected.{Inspected}
 use Rattle.section.specs.declared.inner.Inspected.the-variants as found
-use Rattle.section.specs.Headers.{headOutcome}
-use Rattle.section.specs.Sections.{Verdict, refusedBy, brokenAt, soundWith, verdictOf}
+use Rattle.section.specs.Answers.{headOutcome}
+use Rattle.section.specs.Answers.{Verdict, refusedBy, brokenAt, soundWith, verdictOf}
 
 head-told : Outcome Header → Head
 head-told (refused n) = Refused (numbered n)

@@ -11,9 +11,10 @@ use Rattle.logic.proofs.ChoiceLaws.{eq-yes}
 use Rattle.bytes_at.specs.Fields.{byteAt}
 use Rattle.bytes_at.specs.declared.Walk.{Walk}
 use Rattle.bytes_at.specs.declared.Walk.the-variants.{To, Bad}
-use Rattle.bytes_at.specs.Walks.{Stands}
-use Rattle.refusal.specs.Outcomes.{Outcome, refused, result}
-use Rattle.refusal.proofs.OutcomeLaws.{not-both}
+use Rattle.bytes_at.specs.Walks.{standing}
+use Rattle.bytes_at.specs.Inner.{Stands}
+use Rattle.refusal.specs.Outcomes.{Outcome, refused, result, after}
+use Rattle.refusal.proofs.OutcomeLaws.{not-both, after-is}
 use Rattle.refusal.proofs.TestLaws.{lets-eq, passed-le, passed-eq, passed-ne}
 use Rattle.checksum.specs.Register.{register}
 use Rattle.kind.specs.declared.Kind.{Kind}
@@ -23,7 +24,8 @@ use Rattle.kind.specs.Kinds.{limitsOf, tableIdOf, kindOf, onlyOf}
 use Rattle.section.specs.declared.header.Header.{Header}
 use Rattle.section.specs.Headers.{tableId, syntaxIndicator, privateIndicator, sectionLength, sectionNumber, lastSectionNumber, headerIn, headerBy, ofKind, lengthTests, checksumTest, numberTests}
 use Rattle.section.proofs.TestLaws.{long-enough, lengths-pass, numbers-pass}
-use Rattle.section.specs.Sections.{bodyWalk, byWalk, bodyTest, withBody, verdictBy, plainly, sectionBy}
+use Rattle.section.specs.Sections.{bodyWalk, bodyTest, sectionBy}
+use Rattle.section.specs.Answers.{byWalk, bodyVerdict, withBody, verdictBy, plainly}
 
 -- what the header's tests have shown of a section of kind k
 pub record Passed (k : Kind) (s : List ℕ) (h : Header) : Type 0 where
@@ -102,33 +104,44 @@ pub any-header-passed : (s : List ℕ) (h : Header) → headerBy kindOf s ≡ re
 unfolding headerBy
 any-header-passed s h e = any-kind (kindOf (tableId s)) s h (passed-le 1 3 (length s) _ h e .1)
 
-walk-stood : (w : Walk) (g h : Header) → plainly (byWalk w g) ≡ result h → ((e : ℕ) × (w ≡ To e)) × (h ≡ g)
+walk-stood : (w : Walk) (g h : Header) → after (standing w) (λ e. result g) ≡ result h → Stands w × (h ≡ g)
+unfolding after standing
 walk-stood (To e) g h p = ((e, refl), same g h p)
 walk-stood (Bad x) g h p = not-both 9 h p
 
-with-body : (o : Outcome Header) (s : List ℕ) (h : Header) → plainly (withBody o s) ≡ result h
-    → (o ≡ result h) × ((e : ℕ) × (bodyWalk (h .kind) s ≡ To e))
-unfolding withBody bodyTest
-with-body (refused n) s h p = not-both n h p
-with-body (result g) s h p =
-    let w = walk-stood (bodyWalk (g .kind) s) g h p in
-    (ap result (sym (w .1)), rw (w .1) (w .0))
+with-body : (finds : ℕ → Found) (s : List ℕ) (h : Header) → sectionBy finds s ≡ result h → (headerBy finds s ≡ result h) × Stands (bodyWalk (h .kind) s)
+unfolding sectionBy bodyTest
+with-body finds s h p =
+    let u = after-is (headerBy finds s) (λ g. bodyTest g s) h p in
+    let w = walk-stood (bodyWalk (u .0 .kind) s) (u .0) h (u .1 .1) in
+    (u .1 .0 ∙ ap result (sym (w .1)), rw (w .1) (w .0))
 
 -- a section that is sound has passed the header's tests
 pub section-header : (finds : ℕ → Found) (s : List ℕ) (h : Header) → sectionBy finds s ≡ result h → headerBy finds s ≡ result h
-unfolding sectionBy verdictBy
-section-header finds s h p = with-body (headerBy finds s) s h p .0
+section-header finds s h p = with-body finds s h p .0
 
 -- and the walk through its body stands
 pub section-walked : (finds : ℕ → Found) (s : List ℕ) (h : Header) → sectionBy finds s ≡ result h → Stands (bodyWalk (h .kind) s)
-unfolding sectionBy verdictBy
-section-walked finds s h p = with-body (headerBy finds s) s h p .1
+section-walked finds s h p = with-body finds s h p .1
 
 -- a section of kind k that is sound: its header has passed, and the walk through its body stands
-pub section-sound : (k : Kind) (s : List ℕ) (h : Header) → sectionBy (onlyOf k) s ≡ result h
-    → Passed k s h × ((e : ℕ) × (bodyWalk k s ≡ To e))
-unfolding sectionBy verdictBy
+pub section-sound : (k : Kind) (s : List ℕ) (h : Header) → sectionBy (onlyOf k) s ≡ result h → Passed k s h × Stands (bodyWalk k s)
 section-sound k s h p =
-    let w = with-body (headerBy (onlyOf k) s) s h p in
+    let w = with-body (onlyOf k) s h p in
     let q = header-passed k s h (w .0) .1 in
     (q, (w .1 .0, sym (ap (λ (g : Header). bodyWalk (g .kind) s) (q .fields)) ∙ w .1 .1))
+
+-- ---- what inspecting finds, by its number alone, is what judging says
+plain-walk : (w : Walk) (h : Header) → plainly (byWalk w h) ≡ after (standing w) (λ e. result h)
+unfolding after standing
+plain-walk (To e) h = refl
+plain-walk (Bad x) h = refl
+
+plain-body : (o : Outcome Header) (s : List ℕ) → plainly (withBody o s) ≡ after o (λ h. bodyTest h s)
+unfolding withBody bodyVerdict bodyTest after
+plain-body (refused n) s = refl
+plain-body (result h) s = plain-walk (bodyWalk (h .kind) s) h
+
+pub plain-verdict : (finds : ℕ → Found) (s : List ℕ) → plainly (verdictBy finds s) ≡ sectionBy finds s
+unfolding verdictBy sectionBy
+plain-verdict finds s = plain-body (headerBy finds s) s

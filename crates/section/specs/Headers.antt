@@ -14,8 +14,6 @@ use Rattle.kind.specs.declared.Found.{Found}
 use Rattle.kind.specs.declared.Found.the-variants.{Is, Nothing}
 use Rattle.kind.specs.Kinds.{limitsOf}
 use Rattle.section.specs.declared.header.Header.{Header}
-use Rattle.section.specs.declared.header.Head.{Head}
-use Rattle.section.specs.declared.header.Head.the-variants.{Refused, Passes}
 
 -- ---- the fields, by the names of SCOPE 1.3: the same as those of `headerHead` in Encoding.antt (law `header-bits`), read by their bytes
 abbrev pub tableId : List ℕ → ℕ
@@ -44,11 +42,6 @@ sectionNumber s = byteAt s 6
 
 abbrev pub lastSectionNumber : List ℕ → ℕ
 lastSectionNumber s = byteAt s 7
-
--- ---- what the code's answer means: the number of SCOPE 6, or the header's values
-abbrev pub headOutcome : Head → Outcome Header
-headOutcome (Refused k) = refused (numberOf k)
-headOutcome (Passes h) = result h
 
 abbrev pub headerIn : Kind → List ℕ → Header
 headerIn k s = record {

@@ -7,7 +7,8 @@ use kind::Limits;
 use refusal::Refusal;
 ghost use mathlib.Core.Path.{_≡_};
 ghost use Rattle.kind.specs.Kinds.{kindOf, onlyOf};
-ghost use Rattle.section.specs.Headers.{headOutcome, headerBy, ofKind, lengthTests, checksumTest, numberTests};
+ghost use Rattle.section.specs.Headers.{headerBy, ofKind, lengthTests, checksumTest, numberTests};
+ghost use Rattle.section.specs.Answers.{headOutcome};
 
 // The header's fields, as numbers.
 pub struct Header {

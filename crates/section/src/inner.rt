@@ -21,9 +21,8 @@ ghost use Rattle.checksum.specs.Register.{register, fourBytes};
 ghost use Rattle.kind.specs.Kinds.{limitsOf, kindOf, onlyOf};
 ghost use Rattle.format.specs.Formats.{walksAll};
 ghost use Rattle.format.specs.Values.{number, bytesOf};
-ghost use Rattle.section.specs.Bodies.{bodyOf};
-ghost use Rattle.section.specs.Headers.{headOutcome};
-ghost use Rattle.section.specs.Sections.{verdictOf, verdictBy, withBody, bodyTest};
+ghost use Rattle.section.specs.Walked.{bodyOf};
+ghost use Rattle.section.specs.Answers.{headOutcome, verdictOf, verdictBy, withBody, bodyVerdict};
 ghost use Rattle.section.specs.Encoding.{headerHead, lengthWith, headFor};
 ghost use Rattle.section.specs.Writing.{headerGiven, headerFits};
 
@@ -73,7 +72,7 @@ fn whole_body(s: &[u8], kind: Kind, end: usize, at: usize) -> Walk
 }
 
 fn body_test(s: &[u8], h: Header) -> Inspected
-    ensures { λ r. ⌜ verdictOf r ≡ bodyTest h (now (s .entry)) ⌝ }
+    ensures { λ r. ⌜ verdictOf r ≡ bodyVerdict h (now (s .entry)) ⌝ }
 {
     let kind = h.kind;
     match whole_body(s, kind, body_end(s), body_start(kind)) {

@@ -7,8 +7,8 @@ use kind::Kind;
 use refusal::Refusal;
 ghost use mathlib.Core.Path.{_≡_};
 ghost use Rattle.kind.specs.Kinds.{kindOf, onlyOf};
-ghost use Rattle.section.specs.Headers.{headOutcome};
-ghost use Rattle.section.specs.Sections.{verdictOf, plainly, sectionBy};
+ghost use Rattle.section.specs.Answers.{headOutcome, verdictOf, plainly};
+ghost use Rattle.section.specs.Sections.{sectionBy};
 
 // A section of any of the kinds.
 pub fn judge_any(s: &[u8]) -> Head

@@ -4,13 +4,15 @@ use mathlib.Core.Path.{_≡_, refl, sym, ap, _∙_}
 use mathlib.Core.List.{List, [], _∷_}
 use mathlib.Core.Option.{Option, none, some}
 use lib.ListN.{length}
-use Rattle.refusal.specs.Outcomes.{Outcome, after}
+use Rattle.part.specs.declared.Part.{Part}
+use Rattle.refusal.specs.Outcomes.{Outcome, after, orNone}
 use Rattle.part.specs.Parts.{bytesIn}
-use Rattle.format.specs.Lawful.{Lies, Bytes}
+use Rattle.format.specs.Lawful.{Lies}
+use Rattle.format.specs.Repeats.{Bytes}
 use Rattle.strings.specs.Strings.{StringFields, structure, text, stringsOf, asText}
 use Rattle.strings.specs.Places.{textAt}
 use Rattle.descriptor.specs.Descriptors.{descriptorsOf, contentAdvisory}
-use Rattle.rating.specs.Values.{TextPart, textBy, textPlace}
+use Rattle.rating.specs.Values.{textBy, textPlace}
 use Rattle.rating.proofs.ThereLaws.{text-there}
 use Rattle.rating.proofs.TextLaws.{text-lies, text-none}
 use Rattle.rrt.specs.declared.table.Table.{Table as RrtTable}
@@ -27,7 +29,7 @@ use Rattle.ett.specs.declared.table.Table.{Table as EttTable}
 use Rattle.ett.specs.Format.{EttFields, ettFormat}
 use Rattle.ett.specs.Fields.{fieldsAt}
 use Rattle.ett.proofs.FieldLaws as etts
-use Rattle.section_text.specs.Fields.{titleField, placeField}
+use Rattle.section_text.specs.Fields.{titleField}
 use Rattle.section_laws.specs.Told.{stringsIn}
 
 module _ {A : Type 0} (ask : List ℕ → Outcome A) (tell : List StringFields → Outcome A)
@@ -79,8 +81,8 @@ module _ {A : Type 0} (ask : List ℕ → Outcome A) (tell : List StringFields �
       title-asked = rw (eits.title-there s z a e o l) (titled (titlePlace a e .start) (e .title) (eits.title-lies s z a e o l))
 
       -- the text of a region, by where it is found
-      found : (region : ℕ) (q : Option TextPart) → textPlace region (descriptorsPlace a e .start) (descriptorsOf contentAdvisory (e .descs)) ≡ q
-          → after (placeField q) (λ p. ask (bytesIn s p)) ≡ after (stringsIn (textBy region (descriptorsOf contentAdvisory (e .descs)))) tell
+      found : (region : ℕ) (q : Option Part) → textPlace region (descriptorsPlace a e .start) (descriptorsOf contentAdvisory (e .descs)) ≡ q
+          → after (orNone q) (λ p. ask (bytesIn s p)) ≡ after (stringsIn (textBy region (descriptorsOf contentAdvisory (e .descs)))) tell
       unfolding after
       found region none k =
           let d = eits.descriptors-lie s z a e o l in
@@ -91,7 +93,7 @@ module _ {A : Type 0} (ask : List ℕ → Outcome A) (tell : List StringFields �
           let n = ap (λ n. ask (bytesIn s (record { start = p .start; length = n }))) (u .1 .1 .1 .1) in
           rw (u .1 .0) (n ∙ lying (p .start) (u .0) (u .1 .1 .0, u .1 .1 .1 .0))
 
-      pub advisory-asked : (region : ℕ) → after (placeField (advisoryTextAt s a region)) (λ p. ask (bytesIn s p))
+      pub advisory-asked : (region : ℕ) → after (orNone (advisoryTextAt s a region)) (λ p. ask (bytesIn s p))
           ≡ after (stringsIn (textBy region (descriptorsOf contentAdvisory (e .descs)))) tell
       unfolding advisoryTextAt
       advisory-asked region =

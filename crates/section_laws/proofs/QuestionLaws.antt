@@ -6,7 +6,8 @@ use Rattle.refusal.specs.Outcomes.{result, orNone}
 use Rattle.kind.specs.declared.Kind.the-variants.{Eit}
 use Rattle.part.specs.declared.Part.{Part}
 use Rattle.part.specs.Parts.{endOf}
-use Rattle.format.specs.Lawful.{Lies, Bytes}
+use Rattle.format.specs.Lawful.{Lies}
+use Rattle.format.specs.Repeats.{Bytes}
 use Rattle.descriptor.specs.Descriptors.{descriptorsOf, contentAdvisory}
 use Rattle.rating.specs.Ratings.{ratingIn, descriptorIn, textIn}
 use Rattle.rating.specs.Values.{ratedBy, textPlace, descriptorFor}

@@ -7,7 +7,8 @@ use lib.Seq.{sets}
 use Rattle.refusal.specs.Outcomes.{Outcome, refused, result}
 use Rattle.refusal.proofs.OutcomeLaws.{same-result, after-result, after-refused}
 use Rattle.refusal.proofs.TestLaws.{passed-le}
-use Rattle.format.specs.Lawful.{Lies, Bytes}
+use Rattle.format.specs.Lawful.{Lies}
+use Rattle.format.specs.Repeats.{Bytes}
 use Rattle.format.specs.Listed.{allOf}
 use Rattle.format.proofs.ListedLaws.{Stand, first-lies, rest-stand}
 use Rattle.mgt.proofs.ThereLaws as mgts

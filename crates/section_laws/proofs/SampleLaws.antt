@@ -7,7 +7,7 @@ use lib.ListN.{length}
 use Rattle.kind.specs.declared.Kind.{Kind}
 use Rattle.kind.specs.declared.Kind.the-variants.{Mgt, Tvct, Rrt, Eit, Ett}
 use Rattle.kind.specs.Kinds.{limitsOf}
-use Rattle.format.specs.Lawful.{All}
+use Rattle.format.specs.Repeats.{All}
 use Rattle.format.specs.Values.{bytesOf}
 use Rattle.format.specs.Laws.OfValues.{bytes-bytes}
 use Rattle.format.specs.Told.{sized8}

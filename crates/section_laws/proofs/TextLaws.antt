@@ -3,7 +3,7 @@ use Prim.Native.Nat.{ℕ, _+_, _-_, _≤_}
 use mathlib.Core.Path.{_≡_, sym, ap, _∙_}
 use mathlib.Core.List.{List}
 use lib.ListN.{length}
-use Rattle.refusal.specs.Outcomes.{Outcome, refused, result, after}
+use Rattle.refusal.specs.Outcomes.{Outcome, refused, result, after, orNone}
 use Rattle.refusal.proofs.OutcomeLaws.{after-result, after-refused, after-after}
 use Rattle.kind.specs.declared.Kind.the-variants.{Rrt, Eit, Ett}
 use Rattle.kind.specs.Kinds.{limitsOf}
@@ -32,7 +32,7 @@ use Rattle.entry.specs.Records.{kindOfEntry, recordOf, entriesOf, beginOf, ofEn
 use Rattle.entry.proofs.RecordLaws.{spot-in-told, value-told}
 use Rattle.section_text.specs.declared.field.Which.{Which}
 use Rattle.section_text.specs.declared.field.Which.the-variants.{Title, Advisory, Extended, RegionName, DimensionName, ShortText, LongText}
-use Rattle.section_text.specs.Fields.{kindFor, titleField, titleIn, placeField, advisoryTextIn, dimensionNameIn, valueIn, shortTextIn, longTextIn, fieldIn, fieldOf}
+use Rattle.section_text.specs.Fields.{kindFor, titleField, titleIn, advisoryTextIn, dimensionNameIn, valueIn, shortTextIn, longTextIn, fieldIn, fieldOf}
 use Rattle.section_text.specs.Texts.{textCount, textHeading, textUnits}
 use Rattle.section_laws.specs.Told.{stringsIn, stringsTold}
 use Rattle.section_laws.specs.Accepted.{Reads, ReadsText}
@@ -85,7 +85,7 @@ module _ {A : Type 0} (ask : List ℕ → Outcome A) (tell : List StringFields �
       of-entry Event y o (λ a. result (titleField (titleAt (encode y) a))) (λ a e. result (stringsOf (e .title)))
       (λ a e p l h. title-asked ask tell same (encode y) (encode-bytes Eit y o) a e p l) i
   field-told (Advisory i region) y o =
-      of-entry Event y o (λ a. placeField (advisoryTextAt (encode y) a region))
+      of-entry Event y o (λ a. orNone (advisoryTextAt (encode y) a region))
       (λ a e. stringsIn (textBy region (descriptorsOf contentAdvisory (e .descs))))
       (λ a e p l h. advisory-asked ask tell same (encode y) (encode-bytes Eit y o) a e p l region) i
   field-told Extended y o =

@@ -9,7 +9,8 @@ use Rattle.refusal.proofs.OutcomeLaws.{same-result, after-result, after-refused
 use Rattle.refusal.proofs.TestLaws.{passed-le}
 use Rattle.kind.specs.declared.Kind.the-variants.{Eit}
 use Rattle.part.specs.Parts.{bytesIn}
-use Rattle.format.specs.Lawful.{Lies, Bytes}
+use Rattle.format.specs.Lawful.{Lies}
+use Rattle.format.specs.Repeats.{Bytes}
 use Rattle.format.specs.Listed.{allOf}
 use Rattle.format.proofs.ListedLaws.{Stand, first-lies, rest-stand}
 use Rattle.strings.specs.Strings.{text, stringsOf}

@@ -7,7 +7,8 @@ use lib.Seq.{sets}
 use Rattle.refusal.specs.Outcomes.{Outcome, refused, result}
 use Rattle.refusal.proofs.OutcomeLaws.{after-result, after-refused}
 use Rattle.kind.specs.declared.Kind.the-variants.{Rrt}
-use Rattle.format.specs.Lawful.{Lies, Bytes}
+use Rattle.format.specs.Lawful.{Lies}
+use Rattle.format.specs.Repeats.{Bytes}
 use Rattle.format.proofs.ListedLaws.{Stand, first-lies, first-inside, rest-stand}
 use Rattle.rrt.specs.Format.{ValueFields, valueFormat, DimensionFields, dimensionFormat}
 use Rattle.rrt.specs.Fields.{valuesAt, firstValueAt}

@@ -6,13 +6,14 @@ use mathlib.Core.Path.{_≡_}
 use mathlib.Core.Logic.{_↔_}
 use mathlib.Core.List.{List}
 use lib.ListN.{length}
+use Rattle.part.specs.declared.Part.{Part}
 use Rattle.refusal.specs.Outcomes.{Outcome, refused, result, after}
 use Rattle.kind.specs.declared.Kind.{Kind}
 use Rattle.kind.specs.declared.Kind.the-variants.{Mgt, Tvct, Rrt, Eit, Ett}
 use Rattle.kind.specs.Kinds.{onlyOf}
-use Rattle.format.specs.Lawful.{Bytes}
+use Rattle.format.specs.Repeats.{Bytes}
 use Rattle.strings.specs.Strings.{text, StringFields, stringsOf}
-use Rattle.rating.specs.Values.{Rated, Descriptor, TextPart}
+use Rattle.rating.specs.Values.{Rated, Descriptor}
 use Rattle.mgt.specs.declared.table.Table.{Table as MgtTable}
 use Rattle.mgt.specs.declared.defined.Defined.{Defined}
 use Rattle.channel.specs.declared.channel.Channel.{Channel}
@@ -88,7 +89,7 @@ pub record Library : Type 0 where
   pub event : (i : ℕ) → List ℕ → Outcome Event
   pub rating : (i region dimension : ℕ) → List ℕ → Outcome Rated
   pub descriptor : (i k : ℕ) → List ℕ → Outcome Descriptor
-  pub place : (i region : ℕ) → List ℕ → Outcome TextPart
+  pub place : (i region : ℕ) → List ℕ → Outcome Part
   pub ett : List ℕ → Outcome EttTable
   pub rowCount : Row → (room : ℕ) → List ℕ → Outcome ℕ
   pub rows : Row → (before : List ℕ) → List ℕ → List ℕ

@@ -4,13 +4,14 @@ use mathlib.Core.List.{List, [], _∷_, _++_}
 use mathlib.Core.Option.{Option, none, some}
 use lib.ListN.{length}
 use lib.Seq.{sets}
+use Rattle.part.specs.declared.Part.{Part}
 use Rattle.refusal.specs.Outcomes.{Outcome, refused, result, after, orNone}
 use Rattle.kind.specs.declared.Kind.the-variants.{Mgt, Tvct, Rrt, Eit, Ett}
 use Rattle.kind.specs.Kinds.{limitsOf}
 use Rattle.format.specs.Listed.{allOf}
 use Rattle.strings.specs.Strings.{text, StringFields, stringsOf, asText}
 use Rattle.descriptor.specs.Descriptors.{descriptorsOf, contentAdvisory}
-use Rattle.rating.specs.Values.{Rated, Descriptor, TextPart, ratedBy, textBy, textPlace, descriptorFor}
+use Rattle.rating.specs.Values.{Rated, Descriptor, ratedBy, textBy, textPlace, descriptorFor}
 use Rattle.mgt.specs.declared.table.Table.{Table as MgtTable}
 use Rattle.mgt.specs.declared.defined.Defined.{Defined}
 use Rattle.mgt.specs.Values as mgts
@@ -79,7 +80,7 @@ descriptorTold i k y =
     ofEntry Event (λ a e. orNone (descriptorFor contentAdvisory k (eits.descriptorsPlace a e .start) (descriptorsOf contentAdvisory (e .descs)))) i y
 
 -- where the text of the first such region in the first content advisory stands
-abbrev pub placeTold : ℕ → ℕ → Section Eit → Outcome TextPart
+abbrev pub placeTold : ℕ → ℕ → Section Eit → Outcome Part
 placeTold i region y =
     ofEntry Event (λ a e. orNone (textPlace region (eits.descriptorsPlace a e .start) (descriptorsOf contentAdvisory (e .descs)))) i y
 

@@ -7,26 +7,27 @@ use native.Mathlib.Numerals.{sub-one}
 use native.Mathlib.Omega.{arith}
 use lib.ListN.{length}
 use borrow.Author.Tests.{eq-eqb}
+use Rattle.part.specs.declared.Part.{Part}
 use Rattle.bytes_at.specs.declared.Walk.{Walk}
 use Rattle.bytes_at.specs.declared.Walk.the-variants.{To}
 use Rattle.bytes_at.specs.Fields.{byteAt}
-use Rattle.bytes_at.specs.Walks.{many, Stands}
+use Rattle.bytes_at.specs.Walks.{many}
+use Rattle.bytes_at.specs.Inner.{Stands}
 use Rattle.bytes_at.proofs.WalkLaws.{then-inv, skipped}
 use Rattle.format.specs.Formats.{walks, walksAll}
 use Rattle.format.proofs.FieldLaws.{fields-end}
 use Rattle.strings.specs.Places as places
 use Rattle.descriptor.specs.Descriptors.{region, advisory, content, descriptor, descriptors, contentAdvisory}
 use Rattle.rating.specs.Ratings.{descriptorSize, ratedSize, regionSize, regionIn, regionTextAt, textIn}
-use Rattle.rating.specs.Values.{TextPart}
 use Rattle.rating.proofs.DescriptorLaws.{two, Sound, sound-first}
 use Rattle.rating.proofs.AnswerLaws.{first-left}
 use Rattle.rating.proofs.MatchLaws.{text-behind, region-taken}
 use Rattle.section_text.proofs.PlaceLaws.{SoundIn, sized-sound}
 
 -- the text that is found, if there is one, is sound where it stands
-abbrev pub SoundText : List ℕ → Option TextPart → Type 0
+abbrev pub SoundText : List ℕ → Option Part → Type 0
 SoundText s none = record {}
-SoundText s (some t) = SoundIn s (t .start) (t .size)
+SoundText s (some t) = SoundIn s (t .start) (t .length)
 
 -- ---- the regions of an advisory are passed
 -- the walk past the regions of an advisory whose region count stands at a place

@@ -9,7 +9,7 @@ use lib.Seq.{take-length}
 use Rattle.bytes_at.specs.declared.Walk.the-variants.{To}
 use Rattle.refusal.specs.Outcomes.{result}
 use Rattle.kind.specs.Kinds.{onlyOf}
-use Rattle.format.specs.Lawful.{Bytes}
+use Rattle.format.specs.Repeats.{Bytes}
 use Rattle.format.specs.Formats.{walks, walksAll}
 use Rattle.part.specs.declared.Part.{Part}
 use Rattle.part.specs.Parts.{bytesIn}

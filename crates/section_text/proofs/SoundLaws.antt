@@ -13,18 +13,17 @@ use lib.ListN.{length}
 use Rattle.logic.specs.Choices.{pick, ifEq}
 use Rattle.bytes_at.specs.declared.Walk.the-variants.{To}
 use Rattle.bytes_at.specs.Fields.{byteAt}
-use Rattle.bytes_at.specs.Walks.{Stands}
-use Rattle.refusal.specs.Outcomes.{Outcome, refused, result, after, orRefuse}
+use Rattle.bytes_at.specs.Inner.{Stands}
+use Rattle.refusal.specs.Outcomes.{Outcome, refused, result, after, orRefuse, orNone}
 use Rattle.refusal.proofs.TestLaws.{stops-lt}
 use Rattle.refusal.proofs.OutcomeLaws.{not-both, after-is, after-refused, same-result}
 use Rattle.kind.specs.declared.Kind.the-variants.{Rrt, Eit, Ett}
 use Rattle.kind.specs.Kinds.{limitsOf, onlyOf}
-use Rattle.format.specs.Lawful.{Bytes}
+use Rattle.format.specs.Repeats.{Bytes}
 use Rattle.format.specs.Formats.{walks, walksAll}
 use Rattle.part.specs.declared.Part.{Part}
 use Rattle.part.specs.Parts.{bytesIn}
 use Rattle.strings.specs.Strings.{text}
-use Rattle.rating.specs.Values.{TextPart}
 use Rattle.rrt.specs.Walked.{value}
 use Rattle.rrt.specs.Fields as rrts
 use Rattle.rrt.proofs.WalkLaws.{region-walked, name-walked, value-parts}
@@ -36,7 +35,7 @@ use Rattle.eit.proofs.EventLaws.{title-sound, descriptors-sound}
 use Rattle.ett.specs.Fields as etts
 use Rattle.ett.proofs.TextLaws.{body-text}
 use Rattle.section.specs.declared.header.Header.{Header}
-use Rattle.section.specs.Bodies.{bodyOf}
+use Rattle.section.specs.Walked.{bodyOf}
 use Rattle.section.specs.Sections.{sectionBy}
 use Rattle.section.proofs.SectionLaws.{section-sound}
 use Rattle.entry.specs.declared.Entry.{Entry}
@@ -50,7 +49,7 @@ use Rattle.text.proofs.SoundLaws.{Fair, units-fair, heading-there, none-there}
 use Rattle.text.proofs.TextLaws.{place-none}
 use Rattle.section_text.specs.declared.field.Which.{Which}
 use Rattle.section_text.specs.declared.field.Which.the-variants.{Title, Advisory, Extended, RegionName, DimensionName, ShortText, LongText}
-use Rattle.section_text.specs.Fields.{kindFor, titleField, titleIn, placeField, advisoryTextIn, extendedTextIn, regionNameIn, dimensionNameIn, valueIn, shortTextIn, longTextIn, fieldIn, fieldOf}
+use Rattle.section_text.specs.Fields.{kindFor, titleField, titleIn, advisoryTextIn, extendedTextIn, regionNameIn, dimensionNameIn, valueIn, shortTextIn, longTextIn, fieldIn, fieldOf}
 use Rattle.section_text.specs.Texts.{textHeading, textUnits}
 use Rattle.section_text.proofs.PlaceLaws.{SoundIn, sized-sound, cut-out}
 use Rattle.section_text.proofs.AdvisoryLaws.{SoundText, advisory-sound}
@@ -94,7 +93,7 @@ title-by s start n h = by (eqb n 0) (eqb n 1) (eqb (byteAt s start) 0)
     by false true false = h
     by false false v = h
 
-place-by : (s : List ℕ) (o : Option TextPart) (p : Part) → placeField o ≡ result p → SoundText s o → SoundField s p
+place-by : (s : List ℕ) (o : Option Part) (p : Part) → orNone o ≡ result p → SoundText s o → SoundField s p
 place-by s none p e g = not-both 13 p e
 place-by s (some t) p e g = answered s p _ e g
 
@@ -211,7 +210,7 @@ value-not s h judged i j e =
     counted-not j (rrts.valuesAt s d) _ (value-found s d (b .0) (b .1) j))
     e)
 
-place-not : (o : Option TextPart) → placeField o ≡ refused 9 → ⊥
+place-not : (o : Option Part) → orNone o ≡ refused 9 → ⊥
 place-not none = nine-not _ 13 refl (λ e. omega arith)
 place-not (some t) = result-not _ _ refl
 

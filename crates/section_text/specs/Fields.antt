@@ -4,12 +4,11 @@ use mathlib.Core.List.{List}
 use mathlib.Core.Option.{Option, none, some}
 use lib.ListN.{length}
 use Rattle.refusal.specs.Numbers.{numberOf}
-use Rattle.refusal.specs.Outcomes.{Outcome, refused, result, after}
+use Rattle.refusal.specs.Outcomes.{Outcome, refused, result, after, orNone}
 use Rattle.kind.specs.declared.Kind.{Kind}
 use Rattle.kind.specs.declared.Kind.the-variants.{Rrt, Eit, Ett}
 use Rattle.kind.specs.Kinds.{limitsOf, onlyOf}
 use Rattle.part.specs.declared.Part.{Part}
-use Rattle.rating.specs.Values.{TextPart}
 use Rattle.rrt.specs.Fields as rrts
 use Rattle.eit.specs.declared.event.Title as titles
 use Rattle.eit.specs.declared.event.Title.the-variants as sorts
@@ -46,13 +45,8 @@ titleField (sorts.Text p) = p
 unfoldable pub titleIn : List ℕ → ℕ → Outcome Part
 titleIn s i = after (spotIn Event s i) (λ a. result (titleField (titleAt s a)))
 
--- 13 where no such text was found
-abbrev pub placeField : Option TextPart → Outcome Part
-placeField none = refused 13
-placeField (some p) = result (record { start = p .start; length = p .size })
-
 unfoldable pub advisoryTextIn : List ℕ → ℕ → ℕ → Outcome Part
-advisoryTextIn s i region = after (spotIn Event s i) (λ a. placeField (advisoryTextAt s a region))
+advisoryTextIn s i region = after (spotIn Event s i) (λ a. orNone (advisoryTextAt s a region))
 
 abbrev pub extendedTextIn : List ℕ → Part
 extendedTextIn s = etts.fieldsAt s 0 (limitsOf Ett .body) (length s - 4) .text

@@ -18,11 +18,12 @@ use section::inner::body_start;
 use section::judge_kind;
 use strings::text_at;
 ghost use mathlib.Core.Path.{_≡_};
+ghost use Rattle.refusal.specs.Outcomes.{orNone};
 ghost use Rattle.rating.specs.Ratings.{soughtText};
 ghost use Rattle.entry.specs.declared.Entry.the-variants.{Event, Dimension};
 ghost use Rattle.entry.specs.Entries.{spotOutcome};
 ghost use Rattle.entry.specs.Inner.{Begins, Inside};
-ghost use Rattle.section_text.specs.Fields.{kindFor, titleField, titleIn, placeField, advisoryTextIn, extendedTextIn, regionNameIn, dimensionNameIn, valueIn, shortTextIn, longTextIn, fieldIn, fieldOf, fieldOutcome};
+ghost use Rattle.section_text.specs.Fields.{kindFor, titleField, titleIn, advisoryTextIn, extendedTextIn, regionNameIn, dimensionNameIn, valueIn, shortTextIn, longTextIn, fieldIn, fieldOf, fieldOutcome};
 ghost use Rattle.section_text.specs.Inner.{Begun};
 
 // Which text of a section is asked for, its entries counted from 0.
@@ -90,7 +91,7 @@ fn title_in(s: &[u8], i: usize) -> Field
 
 // 13 where no such text was found.
 fn place_field(found: SoughtText) -> Field
-    ensures { λ r. ⌜ fieldOutcome r ≡ placeField (soughtText found) ⌝ }
+    ensures { λ r. ⌜ fieldOutcome r ≡ orNone (soughtText found) ⌝ }
 {
     match found {
         SoughtText::Is { start, size } => Field::At(Part {

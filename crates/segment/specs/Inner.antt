@@ -7,10 +7,11 @@ use lib.Seq.{sets}
 use Rattle.annex_c.specs.Codes.{Reading, symbol, early}
 use Rattle.annex_c.specs.Tree.{tree, walk}
 use Rattle.segment.specs.Bits.{bits}
-use Rattle.segment.specs.Text.{Text, done, refused, unit, units}
+use Rattle.segment.specs.Text.{Text, done, refused, unit, units, judgedText}
 use Rattle.segment.specs.Segment.{codedText, rawText}
 use Rattle.segment.specs.declared.ReadSymbol.{ReadSymbol}
 use Rattle.segment.specs.declared.ReadSymbol.the-variants.{Symbol, Early}
+use Rattle.segment.specs.declared.Judged.the-variants.{Units, Refused}
 
 -- w is the eight bits from `at` on, with 0 for each past the end
 pub record Window (s : List ℕ) (at w : ℕ) : Type 0 where
@@ -56,3 +57,7 @@ pub record Room (s : List ℕ) (at n : ℕ) : Type 0 where
   pub short : length s ≤ 255
   pub inside : at ≤ 8 * length s
   pub space : n + 8 * length s ≤ 2040 + at
+
+-- the output l with the units of x stored from place n on, those that have room; a refusal stores none
+unfoldable pub written : List ℕ → ℕ → Text → List ℕ
+written l n x = elim (judgedText 0 x) [ Units k ↦ sets l n (units x) | Refused k ↦ l ]

@@ -17,9 +17,9 @@ ghost use Rattle.annex_c.specs.Tree.{tree, walked};
 ghost use Rattle.trees.specs.Which.{tableOf};
 ghost use Rattle.steps.specs.Reaches.{Stepping};
 ghost use Rattle.segment.specs.Bits.{bits, numberOfBits};
-ghost use Rattle.segment.specs.Text.{judgedText, written};
+ghost use Rattle.segment.specs.Text.{judgedText};
+ghost use Rattle.segment.specs.Inner.{written, Window, onFrom, Finds, answer, PairOutcome, CodedAt, RawAt, Room};
 ghost use Rattle.segment.specs.Segment.{endedText, cutText, segmentText};
-ghost use Rattle.segment.specs.Inner.{Window, onFrom, Finds, answer, PairOutcome, CodedAt, RawAt, Room};
 
 // What a segment holds: so many units, or the refusal's number.
 pub enum Judged {

@@ -9,9 +9,9 @@ use Rattle.refusal.specs.Outcomes.{result}
 use Rattle.refusal.proofs.OutcomeLaws.{not-both}
 use Rattle.shelf_state.specs.declared.records.Edition.{Edition}
 use Rattle.shelf_state.specs.declared.records.Shelf.{Shelf}
-use Rattle.shelf.specs.Answers.{After, complete, part, unheard}
+use Rattle.shelf.specs.Answers.{After}
+use Rattle.shelf.specs.Views.{complete, held, unheard, heldOrComplete, statusOf}
 use Rattle.shelf.specs.Calls.{orRefuseWith, refusedWith}
-use Rattle.shelf.specs.Views.{partOrComplete, statusOf}
 
 -- ---- a test and what follows it
 module _ {A : Type 0} (n : ℕ) (s : Shelf) (t : Bool) (rest : After A) {r : After A} where
@@ -35,14 +35,14 @@ module _ (e : Edition) where
   status-unheard c h = rw h
 
   module _ (c n d : ℕ) (h : e .heard ≡ true) (f : c ≡ d) (g : n ≡ e .last + 1) where
-    counted : partOrComplete c n ≡ statusOf e d
+    counted : heldOrComplete c n ≡ statusOf e d
     unfolding statusOf
-    counted = ap₂ partOrComplete f g ∙ sym (ap (λ (b : Bool). pick b (partOrComplete d (e .last + 1)) unheard) h)
+    counted = ap₂ heldOrComplete f g ∙ sym (ap (λ (b : Bool). pick b (heldOrComplete d (e .last + 1)) unheard) h)
 
     pub status-complete : c ≡ n → complete n ≡ statusOf e d
-    unfolding partOrComplete
-    status-complete q = eq-yes c n (complete n) (part c n) q refl ∙ counted
+    unfolding heldOrComplete
+    status-complete q = eq-yes c n (complete n) (held c n) q refl ∙ counted
 
-    pub status-part : (c ≡ n → ⊥) → part c n ≡ statusOf e d
-    unfolding partOrComplete
-    status-part q = eq-no c n (complete n) (part c n) q refl ∙ counted
+    pub status-part : (c ≡ n → ⊥) → held c n ≡ statusOf e d
+    unfolding heldOrComplete
+    status-part q = eq-no c n (complete n) (held c n) q refl ∙ counted

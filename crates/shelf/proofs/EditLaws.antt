@@ -11,7 +11,8 @@ use Rattle.logic.proofs.LoopLaws.{and-left, and-right, isnt}
 use Rattle.shelf_state.proofs.RecordLaws.{isOf-i}
 use Rattle.shelf_state.proofs.RuleLaws.{Rules, one-watch, rules}
 use Rattle.shelf_state.proofs.WatchLaws.{Fits, at-other, at-same, new-rules}
-use Rattle.shelf_state.specs.Records.{asked, dropped, isOf, placeAt, release, setWatch, watchAt}
+use Rattle.shelf_state.specs.Records.{asked, isOf, placeAt, watchAt}
+use Rattle.shelf_state.specs.Searches.{dropped, release, setWatch}
 use Rattle.shelf_state.specs.Rules.{quotaOf}
 use Rattle.shelf_state.specs.declared.records.Shelf.{Shelf}
 use Rattle.shelf_state.specs.declared.records.Edition.{Edition}

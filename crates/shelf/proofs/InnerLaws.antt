@@ -8,7 +8,8 @@ use native.Mathlib.Omega.{arith}
 use Rattle.logic.proofs.LoopLaws.{first-at, first-none}
 use Rattle.logic.specs.Choices.{pick}
 use Rattle.logic.specs.Loops.{first}
-use Rattle.shelf_state.specs.Records.{isHeld, placeAt, placeOf, watchAt}
+use Rattle.shelf_state.specs.Records.{placeAt, watchAt}
+use Rattle.shelf_state.specs.Searches.{isHeld, placeOf}
 use Rattle.shelf_state.specs.declared.records.Shelf.{Shelf}
 use Rattle.shelf.specs.Inner.{keptBytes, lowestMissing}
 use Rattle.shelf.specs.Views.{Kept, atFirst, bytesAt, keptAt}

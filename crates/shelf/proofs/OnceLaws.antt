@@ -19,7 +19,8 @@ use Rattle.shelf.specs.declared.answers.AfterStatus.{AfterStatus}
 use Rattle.shelf.specs.declared.answers.AfterFetch.{AfterFetch}
 use Rattle.shelf.specs.declared.delivery.Owner.{Owner}
 use Rattle.shelf.specs.declared.delivery.Owner.the-variants as owner
-use Rattle.shelf.specs.Answers.{Status, unheard, part, complete, changeOutcome, statusOutcome, fetchOutcome, After, afterChange, afterStatus, afterFetch}
+use Rattle.shelf.specs.Answers.{changeOutcome, statusOutcome, fetchOutcome, After, afterChange, afterStatus, afterFetch}
+use Rattle.shelf.specs.Views.{Status, unheard, held, complete}
 use Rattle.shelf.specs.Inner.{ownerOutcome}
 use Rattle.shelf.specs.Delivery.{done, areaAfter}
 
@@ -38,7 +39,7 @@ change-once = once-by changeOutcome change-told change-back
 status-told : Outcome Status → Progress
 status-told (refused n) = progress.Refused (numbered n)
 status-told (result unheard) = progress.NothingHeard
-status-told (result (part c n)) = progress.Part c n
+status-told (result (held c n)) = progress.Part c n
 status-told (result (complete n)) = progress.Complete n
 
 status-back : (x : Progress) → status-told (statusOutcome x) ≡ x

@@ -11,7 +11,8 @@ use Rattle.logic.specs.Choices.{pick}
 use Rattle.logic.proofs.LoopLaws.{any-at, any-first, both, first-has, isnt, none-at, not-e, same-or-not, true-false}
 use Rattle.shelf_state.proofs.RecordLaws.{holds-i, holds-parts}
 use Rattle.shelf_state.proofs.RuleLaws.{Owned, Rules, one-place, room-left}
-use Rattle.shelf_state.specs.Records.{blankPlace, freePlace, holds, isHeld, placeAt, placeOf, watchAt}
+use Rattle.shelf_state.specs.Records.{blankPlace, holds, placeAt, watchAt}
+use Rattle.shelf_state.specs.Searches.{freePlace, isHeld, placeOf}
 use Rattle.shelf_state.specs.declared.records.Place.{Place}
 use Rattle.shelf_state.specs.declared.records.Shelf.{Shelf}
 use Rattle.shelf.specs.Delivery.{keeping, placeAmong, placeFor, stored}

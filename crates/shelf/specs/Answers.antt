@@ -1,5 +1,4 @@
--- What each call answers: the number of SCOPE 6 or its values, for every case of the answers' types, and the shelf after it.
-use Prim.Native.Nat.{ℕ}
+-- What the code's answers mean: the number of SCOPE 6 or its values, for every case of the answers' types, and the shelf after a call.
 use Rattle.part.specs.declared.Part.{Part}
 use Rattle.refusal.specs.Numbers.{numberOf}
 use Rattle.refusal.specs.Outcomes.{Outcome, refused, result}
@@ -16,12 +15,7 @@ use Rattle.shelf.specs.declared.answers.Fetched.the-variants as F
 use Rattle.shelf.specs.declared.answers.AfterChange.{AfterChange}
 use Rattle.shelf.specs.declared.answers.AfterStatus.{AfterStatus}
 use Rattle.shelf.specs.declared.answers.AfterFetch.{AfterFetch}
-
--- a watch answers: nothing heard, c of n sections, or complete (with n)
-pub data Status : Type 0 where
-  unheard : Status
-  part : ℕ → ℕ → Status
-  complete : ℕ → Status
+use Rattle.shelf.specs.Views.{Status, unheard, held, complete}
 
 -- ---- every case of an answer
 abbrev pub changeOutcome : Change → Outcome (Unit {0})
@@ -31,7 +25,7 @@ changeOutcome Done = result tt
 abbrev pub statusOutcome : Progress → Outcome Status
 statusOutcome (P.Refused k) = refused (numberOf k)
 statusOutcome NothingHeard = result unheard
-statusOutcome (P.Part c n) = result (part c n)
+statusOutcome (P.Part c n) = result (held c n)
 statusOutcome (Complete n) = result (complete n)
 
 abbrev pub fetchOutcome : Fetched → Outcome Part

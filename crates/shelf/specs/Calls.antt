@@ -1,17 +1,19 @@
--- SCOPE 3.5, 5.2, 5.7 and 5.8, with the orders of SCOPE 6.2: what each call answers, and the shelf after it.
+-- SCOPE 3.5, 5.2, 5.7 and 5.8, with the orders of SCOPE 6.2: what each call answers, and the records of the shelf after it. The laws of
+-- `shelf_laws` hold these to Views.antt.
 use Prim.Native.Nat.{ℕ, _+_, _*_}
 use mathlib.Core.Bool.{Bool, true, false, not}
 use lib.Dec.{leb}
 use Rattle.part.specs.declared.Part.{Part}
 use Rattle.refusal.specs.Outcomes.{refused, result}
 use Rattle.logic.specs.Loops.{any, count}
-use Rattle.shelf_state.specs.Records.{noEdition, blankWatch, watchAt, placeAt, keyOf, watched, watchOf, freeRecord, isHeld, placeOf, setWatch, dropped, emptyShelf}
+use Rattle.shelf_state.specs.Records.{noEdition, blankWatch, watchAt, placeAt, emptyShelf}
+use Rattle.shelf_state.specs.Searches.{keyOf, watched, watchOf, freeRecord, isHeld, placeOf, setWatch, dropped}
 use Rattle.shelf_state.specs.Rules.{promised, inRange, sizesInRange, obeys}
 use Rattle.shelf_state.specs.declared.records.Asked.{Asked}
 use Rattle.shelf_state.specs.declared.records.Watch.{Watch}
 use Rattle.shelf_state.specs.declared.records.Shelf.{Shelf}
-use Rattle.shelf.specs.Answers.{After, Status}
-use Rattle.shelf.specs.Views.{statusOf}
+use Rattle.shelf.specs.Answers.{After}
+use Rattle.shelf.specs.Views.{Status, statusOf}
 
 -- ---- how a call ends
 -- by a refusal, the shelf as it was; by its values and a shelf

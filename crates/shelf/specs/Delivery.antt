@@ -1,4 +1,5 @@
--- SCOPE 5.5 and 5.6: what a delivered section does to the shelf and its area. SCOPE 6.2, its order: 14, 15, 1 to 9, 16, 17, 18.
+-- SCOPE 5.5 and 5.6: what a delivered section does to the records of the shelf and to its area. SCOPE 6.2, its order: 14, 15, 1 to 9, 16, 17, 18. The laws
+-- of `shelf_laws` hold this to Views.antt.
 use Prim.Native.Nat.{ℕ, _+_, _*_}
 use mathlib.Core.Bool.{true, not}
 use mathlib.Core.List.{List}
@@ -9,7 +10,8 @@ use Rattle.logic.specs.Choices.{pick}
 use Rattle.logic.specs.Loops.{any}
 use Rattle.refusal.specs.Outcomes.{Outcome, refused, result, orRefuse}
 use Rattle.section.specs.declared.header.Header.{Header}
-use Rattle.shelf_state.specs.Records.{watchIn, watchAt, placeIn, isOf, findWatch, holds, findPlace, firstFree, setWatch, setPlace, dropped}
+use Rattle.shelf_state.specs.Records.{watchIn, watchAt, placeIn, isOf, holds}
+use Rattle.shelf_state.specs.Searches.{findWatch, findPlace, firstFree, setWatch, setPlace, dropped}
 use Rattle.shelf_state.specs.Rules.{obeys}
 use Rattle.shelf_state.specs.declared.records.Asked.{Asked}
 use Rattle.shelf_state.specs.declared.records.Watch.{Watch}

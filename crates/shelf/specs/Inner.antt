@@ -9,7 +9,8 @@ use Rattle.logic.specs.Loops.{first}
 use Rattle.refusal.specs.Numbers.{numberOf}
 use Rattle.refusal.specs.Outcomes.{Outcome, refused, result}
 use Rattle.section.specs.declared.header.Header.{Header}
-use Rattle.shelf_state.specs.Records.{isHeld, placeAt, placeOf, watchAt}
+use Rattle.shelf_state.specs.Records.{placeAt, watchAt}
+use Rattle.shelf_state.specs.Searches.{isHeld, placeOf}
 use Rattle.shelf_state.specs.Rules.{obeys}
 use Rattle.shelf_state.specs.declared.records.Edition.{Edition}
 use Rattle.shelf_state.specs.declared.records.Shelf.{Shelf}

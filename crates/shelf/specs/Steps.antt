@@ -10,8 +10,8 @@ use Rattle.part.specs.declared.Part.{Part}
 use Rattle.refusal.specs.Outcomes.{Outcome, refused, result}
 use Rattle.shelf_state.specs.declared.records.Asked.{Asked}
 use Rattle.shelf_state.specs.declared.records.Shelf.{Shelf}
-use Rattle.shelf.specs.Answers.{After, Status}
-use Rattle.shelf.specs.Views.{Call, View, asks, closes, delivers, fetches, opens, view}
+use Rattle.shelf.specs.Answers.{After}
+use Rattle.shelf.specs.Views.{Status, Call, View, asks, closes, delivers, fetches, opens, view}
 use Rattle.shelf.specs.Calls.{opened, closed, statusAfter, fetched}
 use Rattle.shelf.specs.Delivery.{areaAfter, delivered, delivering}
 
@@ -50,7 +50,7 @@ areaThen x (other m) l = x .area
 -- ---- what it answers: done; a status; the bytes that are fetched
 pub data Answer : Type 0 where
   did : Outcome (Unit {0}) → Answer
-  told : Outcome Status → Answer
+  reported : Outcome Status → Answer
   gave : Outcome (List ℕ) → Answer
 
 abbrev pub isResult : {A : Type 0} → Outcome A → Bool
@@ -60,7 +60,7 @@ isResult (result x) = true
 -- not refused
 abbrev pub accepted : Answer → Bool
 accepted (did o) = isResult o
-accepted (told o) = isResult o
+accepted (reported o) = isResult o
 accepted (gave o) = isResult o
 
 -- the bytes of a fetched part
@@ -80,7 +80,7 @@ onlyRead x f r = record { answer = f (r .outcome); next = record { shelf = r .sh
 unfoldable pub stepOn : State → Lent → List ℕ → Call → Step
 stepOn x u l (opens o) = onlyRead x did (opened (x .shelf) (length l) (o .key) (o .quota))
 stepOn x u l (closes c) = onlyRead x did (closed (x .shelf) (length l) (c .key))
-stepOn x u l (asks q) = onlyRead x told (statusAfter (x .shelf) (length l) (q .key))
+stepOn x u l (asks q) = onlyRead x reported (statusAfter (x .shelf) (length l) (q .key))
 stepOn x u l (fetches f) = onlyRead x (λ o. gave (fetchedBytes l o)) (fetched (x .shelf) (length l) (f .key) (f .number))
 stepOn x u l (delivers d) = record {
   answer = did (delivered (x .shelf) (length l) (d .pid) (d .bytes) .outcome);

@@ -1,7 +1,7 @@
 -- SCOPE 3.5 and 5: the first page to read of the shelf. What a key's watch has collected is its view: its quota, its edition and what is
--- kept of its sections, by number. What a call answers to a key is told here of that view alone, but for an opening (`opened` of
--- Calls.antt), and what it does to the view is told of that view, the call and whether it was accepted. How a shelf keeps its views, in
--- watch records, places and an area, is told at the end.
+-- kept of its sections, by number. What a call answers to a key is told here of that view (of an opening, also of the records and places that
+-- are left), and what it does to the view is told of that view, the call and whether it was accepted. How a shelf keeps its views, in watch
+-- records, places and an area, is told at the end.
 use Prim.Native.Nat.{ℕ, _+_, _*_}
 use mathlib.Core.Bool.{Bool, true, false, not}
 use mathlib.Core.List.{List}
@@ -16,10 +16,10 @@ use Rattle.refusal.specs.Outcomes.{Outcome, refused, result, orRefuse}
 use Rattle.section.specs.declared.header.Header.{Header}
 use Rattle.section.specs.Sections.{sectionBy}
 use Rattle.shelf_state.specs.Records.{noEdition, watchAt, placeAt, sameKey, isOf, holds}
+use Rattle.shelf_state.specs.Rules.{inRange, promised}
 use Rattle.shelf_state.specs.declared.records.Asked.{Asked}
 use Rattle.shelf_state.specs.declared.records.Edition.{Edition}
 use Rattle.shelf_state.specs.declared.records.Shelf.{Shelf}
-use Rattle.shelf.specs.Answers.{Status, unheard, part, complete}
 
 -- ---- a view
 -- what is kept of a section
@@ -110,23 +110,37 @@ nextView k (asks q) y v = v
 nextView k (fetches f) y v = v
 nextView k (delivers d) y v = pick (y & sameKey k (keyIn (d .pid) (d .bytes))) (hearsIn v (d .bytes) (judged (d .bytes))) v
 
--- ---- what a call answers to a key with this view, on a shelf that obeys its rules. Opening's 20 and 21 depend on the other watches,
--- so an opening's answer is no function of one view
+-- ---- what a call answers to a key with this view, on a shelf that obeys its rules
+abbrev pub isSome : {A : Type 0} → Option A → Bool
+isSome none = false
+isSome (some x) = true
+
+-- an opening also asks the shelf: for a record that is not open, and for places that are not promised
+unfoldable pub openingSays : Shelf → Option View → Opening → Outcome (Unit {0})
+openingSays s v o =
+    orRefuse 15 (inRange (o .key) (o .quota))
+    (orRefuse 19 (not (isSome v))
+    (orRefuse 20 (any (s .records) (λ i. not (watchAt s i .live)))
+    (orRefuse 21 (leb (promised s + o .quota) (s .count))
+    (result tt))))
+
 abbrev pub closingSays : Option View → Outcome (Unit {0})
 closingSays none = refused 17
 closingSays (some v) = result tt
 
+-- a watch answers: nothing heard, c of n sections, or complete (with n)
+pub data Status : Type 0 where
+  unheard : Status
+  held : ℕ → ℕ → Status
+  complete : ℕ → Status
+
 -- complete where all n numbers from 0 to last are held, else c of n
-unfoldable pub partOrComplete : ℕ → ℕ → Status
-partOrComplete c n = ifEq c n (complete n) (part c n)
+unfoldable pub heldOrComplete : ℕ → ℕ → Status
+heldOrComplete c n = ifEq c n (complete n) (held c n)
 
 -- nothing heard, where there is no edition
 unfoldable pub statusOf : Edition → ℕ → Status
-statusOf e c = pick (e .heard) (partOrComplete c (e .last + 1)) unheard
-
-abbrev pub isSome : {A : Type 0} → Option A → Bool
-isSome none = false
-isSome (some x) = true
+statusOf e c = pick (e .heard) (heldOrComplete c (e .last + 1)) unheard
 
 -- c is how many numbers from 0 to last are kept
 abbrev pub heldIn : View → ℕ

@@ -23,7 +23,7 @@ ghost use mathlib.Core.Bool.{true};
 ghost use Prim.Native.Nat.{_+_, _*_, _≤_, _<_};
 ghost use lib.ListN.{length};
 ghost use lib.Seq.{paste};
-ghost use Rattle.section.specs.Headers.{headOutcome};
+ghost use Rattle.section.specs.Answers.{headOutcome};
 ghost use Rattle.shelf_state.specs.Rules.{obeys};
 ghost use Rattle.shelf.specs.Answers.{afterChange};
 ghost use Rattle.shelf.specs.Inner.{droppedBelow, ownerOutcome, Sound, Ready};

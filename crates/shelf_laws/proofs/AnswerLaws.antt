@@ -1,4 +1,4 @@
--- What closing, status, fetching and delivery answer on a shelf that obeys its rules: functions of the key's view.
+-- What the calls answer on a shelf that obeys its rules, by the key's view; and that one which breaks them is refused by 14.
 use Prim.Native.Nat.{_*_, _+_, ℕ}
 use mathlib.Core.Path.{_∙_, _≡_, ap, refl, sym}
 use mathlib.Core.Bool.{Bool, false, not, true}
@@ -7,19 +7,21 @@ use mathlib.Core.Option.{none, some}
 use lib.Dec.{eqb, leb}
 use lib.ListN.{length}
 use Rattle.logic.specs.Choices.{pick}
-use Rattle.logic.specs.Loops.{one}
+use Rattle.logic.specs.Loops.{any, one}
 use Rattle.logic.proofs.CountLaws.{sum-cong}
 use Rattle.refusal.specs.Outcomes.{Outcome, refused, result, orRefuse}
 use Rattle.section.specs.declared.header.Header.{Header}
-use Rattle.shelf_state.specs.Records.{blankWatch, dropped, isHeld, placeAt, placeOf, setWatch, watchAt, watchOf, watched}
-use Rattle.shelf_state.specs.Rules.{obeys}
+use Rattle.shelf_state.specs.Records.{blankWatch, placeAt, watchAt}
+use Rattle.shelf_state.specs.Searches.{dropped, freeRecord, isHeld, placeOf, setWatch, watchOf, watched}
+use Rattle.shelf_state.specs.Rules.{inRange, obeys, promised}
 use Rattle.shelf_state.specs.declared.records.Asked.{Asked}
 use Rattle.shelf_state.specs.declared.records.Shelf.{Shelf}
 use Rattle.shelf.specs.Answers.{After}
-use Rattle.shelf.specs.Calls.{answered, closed, fetched, fetchedFrom, heldNumbers, orRefuseWith, statusAfter}
-use Rattle.shelf.specs.Delivery.{arriving, byJudge, delivering, done, forOwner, ownerIn, received, receivedAt}
-use Rattle.shelf.specs.Steps.{fetchedBytes}
-use Rattle.shelf.specs.Views.{atFirst, bytesAt, bytesOr22, closingSays, currentOf, currentOn, deliverySays, fetchingSays, heldIn, isSome, judged, keptAt, keyIn, statusOf, statusSays, view, viewAt}
+use Rattle.shelf.specs.Calls.{answered, closed, fetched, fetchedFrom, fresh, heldNumbers, opened, openedInRange, orRefuseWith, refusedWith, statusAfter}
+use Rattle.shelf.specs.Delivery.{arriving, byJudge, delivered, delivering, done, forOwner, ownerIn, received, receivedAt}
+use Rattle.shelf.specs.Steps.{Lent, State, did, fetchedBytes, gave, lentTo, step, stepOn, reported}
+use Rattle.shelf.specs.Views.{Call, asks, atFirst, bytesAt, bytesOr22, closes, closingSays, currentOf, currentOn, delivers, deliverySays, fetches, fetchingSays, heldIn, isSome, judged, keptAt, keyIn, openingSays, opens, statusOf, statusSays, view, viewAt}
+use Rattle.shelf_laws.specs.Laws.{BrokenLaw, refusedAs}
 use Rattle.shelf_laws.proofs.ViewLaws.{kept-held}
 
 -- 14 is not given
@@ -27,10 +29,43 @@ passes : {A B : Type 0} (f : After A → B) (s : Shelf) (area : ℕ) → obeys s
 unfolding orRefuseWith
 passes f s area ok rest = ap (λ (b : Bool). f (orRefuseWith 14 s b rest)) ok
 
+-- 14 is given, and the call is refused
+breaks : {A B : Type 0} (f : After A → B) (s : Shelf) (area : ℕ) → obeys s area ≡ false → (rest : After A) → f (orRefuseWith 14 s (obeys s area) rest) ≡ f (refusedWith 14 s)
+unfolding orRefuseWith
+breaks f s area e rest = ap (λ (b : Bool). f (orRefuseWith 14 s b rest)) e
+
+broken-on : (x : State) (u : Lent) (l : List ℕ) (c : Call) → obeys (x .shelf) (length l) ≡ false → stepOn x u l c .answer ≡ refusedAs c 14
+unfolding stepOn opened closed statusAfter fetched delivered delivering
+broken-on x u l (opens o) e = breaks (λ r. did (r .outcome)) (x .shelf) (length l) e _
+broken-on x u l (closes c) e = breaks (λ r. did (r .outcome)) (x .shelf) (length l) e _
+broken-on x u l (asks q) e = breaks (λ r. reported (r .outcome)) (x .shelf) (length l) e _
+broken-on x u l (fetches f) e = breaks (λ r. gave (fetchedBytes l (r .outcome))) (x .shelf) (length l) e _
+broken-on x u l (delivers d) e = breaks (λ r. did (done (r .outcome))) (x .shelf) (length l) e _
+
+pub broken-law : BrokenLaw
+unfolding step
+broken-law x t e = broken-on x (t .lent) (lentTo x (t .lent)) (t .call) e
+
 module _ (s : Shelf) (area : List ℕ) (ok : obeys s (length area) ≡ true) where
   module _ (a : Asked) where
     abbrev w : ℕ
     w = watchOf s a
+
+    pub opening-says : (q : ℕ) → opened s (length area) a q .outcome ≡ openingSays s (view s area a) (record { key = a; quota = q })
+    unfolding opened openedInRange orRefuseWith openingSays orRefuse view atFirst
+    opening-says q =
+        passes (λ r. r .outcome) s (length area) ok _
+        ∙ go (inRange a q) (watched s a) (any (s .records) (λ i. not (watchAt s i .live))) (leb (promised s + q) (s .count))
+      where
+        go : (b c d e : Bool)
+            → _≡_ {A = Outcome (Unit {0})}
+            (orRefuseWith 15 s b (orRefuseWith 19 s (not c) (orRefuseWith 20 s d (orRefuseWith 21 s e (answered tt (setWatch s (freeRecord s) (fresh a q)))))) .outcome)
+            (orRefuse 15 b (orRefuse 19 (not (isSome (pick c (some (viewAt s area w)) none))) (orRefuse 20 d (orRefuse 21 e (result tt)))))
+        go false c d e = refl
+        go true true d e = refl
+        go true false false e = refl
+        go true false true false = refl
+        go true false true true = refl
 
     pub closing-says : closed s (length area) a .outcome ≡ closingSays (view s area a)
     unfolding closed orRefuseWith view atFirst

@@ -10,7 +10,8 @@ use lib.ListN.{length}
 use Rattle.logic.specs.Loops.{_&_}
 use Rattle.logic.proofs.LoopLaws.{isnt, same-or-not, true-false}
 use Rattle.refusal.specs.Outcomes.{result}
-use Rattle.shelf_state.specs.Records.{blankWatch, dropped, isOf, sameKey, setWatch, watchAt, watchOf, watched}
+use Rattle.shelf_state.specs.Records.{blankWatch, isOf, sameKey, watchAt}
+use Rattle.shelf_state.specs.Searches.{dropped, setWatch, watchOf, watched}
 use Rattle.shelf_state.specs.Rules.{obeys, promised, quotaOf}
 use Rattle.shelf_state.specs.declared.records.Asked.{Asked}
 use Rattle.shelf_state.specs.declared.records.Shelf.{Shelf}
@@ -23,7 +24,8 @@ use Rattle.shelf.specs.Calls.{answered, closed}
 use Rattle.shelf.specs.Steps.{State}
 use Rattle.shelf.specs.Views.{Closing, closes, keptAt, nextView, view, viewAt}
 use Rattle.shelf.proofs.CallLaws.{go-on, passed}
-use Rattle.shelf_laws.specs.Laws.{ClosingKeeps, quotaClosed, quotaIn, quotaOpened}
+use Rattle.shelf_laws.specs.Laws.{quotaClosed, quotaIn, quotaOpened}
+use Rattle.shelf_laws.specs.Stays.{ClosingKeeps}
 use Rattle.shelf_laws.proofs.KeptLaws.{dropped-other, dropped-stays}
 use Rattle.shelf_laws.proofs.MoveLaws.{Moves, by-key, other-key, promised-moves}
 use Rattle.shelf_laws.proofs.ViewLaws.{found, own-watch, seen, view-none}

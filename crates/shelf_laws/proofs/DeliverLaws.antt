@@ -16,7 +16,8 @@ use Rattle.logic.specs.Loops.{_&_}
 use Rattle.logic.proofs.LoopLaws.{any-yes, isnt}
 use Rattle.refusal.specs.Outcomes.{Outcome, refused, result}
 use Rattle.section.specs.declared.header.Header.{Header}
-use Rattle.shelf_state.specs.Records.{isOf, sameKey, watchAt, watchOf}
+use Rattle.shelf_state.specs.Records.{isOf, sameKey, watchAt}
+use Rattle.shelf_state.specs.Searches.{watchOf}
 use Rattle.shelf_state.specs.Rules.{obeys, promised, quotaOf}
 use Rattle.shelf_state.specs.declared.records.Asked.{Asked}
 use Rattle.shelf_state.specs.declared.records.Shelf.{Shelf}
@@ -34,7 +35,8 @@ use Rattle.shelf.proofs.EditLaws.{Edited}
 use Rattle.shelf.proofs.JudgeLaws.{judged-sound}
 use Rattle.shelf.proofs.OwnerLaws.{Owns, for-owner, owns, place-inside, ready-edited, ready-place}
 use Rattle.shelf.proofs.PlaceLaws.{stored-other, stored-rules}
-use Rattle.shelf_laws.specs.Laws.{DeliveryKeeps, quotaClosed, quotaOpened}
+use Rattle.shelf_laws.specs.Laws.{quotaClosed, quotaOpened}
+use Rattle.shelf_laws.specs.Stays.{DeliveryKeeps}
 use Rattle.shelf_laws.proofs.AreaLaws.{paste-after, paste-before, paste-size}
 use Rattle.shelf_laws.proofs.KeptLaws.{edited-other, edited-own, edited-stays, put-other, put-own}
 use Rattle.shelf_laws.proofs.MoveLaws.{Moves, by-key, other-key, own-key, promised-moves}

@@ -1,7 +1,7 @@
--- An empty shelf of sizes in range obeys the rules, promises nothing, and watches no key.
+-- An empty shelf is made where its sizes are in range; it obeys the rules, promises nothing, and watches no key.
 use Prim.Native.Nat.{_*_, ℕ}
 use mathlib.Core.Path.{_∙_, _≡_, ap, refl, subst, sym}
-use mathlib.Core.Bool.{false, true}
+use mathlib.Core.Bool.{Bool, false, true}
 use mathlib.Core.List.{List}
 use mathlib.Core.Option.{none}
 use native.Mathlib.Omega.{arith}
@@ -9,6 +9,7 @@ use lib.ListN.{length, length-replicate}
 use borrow.Author.Tests.{leb-true}
 use Rattle.logic.proofs.CountLaws.{sum-cong, sum-zero}
 use Rattle.logic.proofs.LoopLaws.{and-left, and-right, true-false}
+use Rattle.refusal.specs.Outcomes.{Outcome, orRefuse, result}
 use Rattle.shelf_state.specs.Records.{blankPlace, blankWatch, emptyShelf, isOf, placeAt, watchAt}
 use Rattle.shelf_state.specs.Rules.{obeys, promised, quotaOf, sizesInRange}
 use Rattle.shelf_state.specs.declared.records.Asked.{Asked}
@@ -18,10 +19,10 @@ use Rattle.shelf_state.specs.declared.records.Watch.{Watch}
 use Rattle.shelf_state.proofs.RecordLaws.{isOf-shut, replicate-at}
 use Rattle.shelf_state.proofs.RuleLaws.{Sizes, obeys-i, quota-shut}
 use Rattle.shelf.specs.Answers.{After}
-use Rattle.shelf.specs.Calls.{made}
+use Rattle.shelf.specs.Calls.{answered, made, orRefuseWith}
 use Rattle.shelf.specs.Views.{view}
 use Rattle.shelf.proofs.CallLaws.{go-on, passed}
-use Rattle.shelf_laws.specs.Laws.{Empty, EmptyLaw}
+use Rattle.shelf_laws.specs.Laws.{Empty, EmptyLaw, MadeLaw}
 use Rattle.shelf_laws.proofs.ViewLaws.{view-none}
 
 module _ (places records : ℕ) where
@@ -77,6 +78,14 @@ module _ (places records : ℕ) where
       short = λ i l u. free i u;
       range = λ i l v. shut i v;
     })
+
+pub made-law : MadeLaw
+unfolding made orRefuseWith orRefuse
+made-law places records = go (sizesInRange places records)
+  where
+    go : (b : Bool) → _≡_ {A = Outcome (Unit {0})} (orRefuseWith 14 (emptyShelf 0 0) b (answered tt (emptyShelf places records)) .outcome) (orRefuse 14 b (result tt))
+    go true = refl
+    go false = refl
 
 pub empty-law : EmptyLaw
 unfolding made

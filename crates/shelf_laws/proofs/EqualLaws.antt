@@ -13,7 +13,8 @@ use Rattle.logic.specs.Choices.{pick}
 use Rattle.logic.proofs.LoopLaws.{any-first, first-has}
 use Rattle.refusal.specs.Outcomes.{Outcome, refused, result, orRefuse}
 use Rattle.section.specs.declared.header.Header.{Header}
-use Rattle.shelf_state.specs.Records.{blankPlace, dropped, freePlace, holds, isHeld, placeAt, placeOf, setPlace, setWatch, watchAt, watchOf}
+use Rattle.shelf_state.specs.Records.{blankPlace, holds, placeAt, watchAt}
+use Rattle.shelf_state.specs.Searches.{dropped, freePlace, isHeld, placeOf, setPlace, setWatch, watchOf}
 use Rattle.shelf_state.specs.declared.records.Asked.{Asked}
 use Rattle.shelf_state.specs.declared.records.Edition.{Edition}
 use Rattle.shelf_state.specs.declared.records.Place.{Place}

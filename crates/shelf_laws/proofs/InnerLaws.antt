@@ -6,7 +6,7 @@ use Rattle.shelf.proofs.InnerLaws.{kept-view}
 use Rattle.shelf.specs.Inner.{lowestMissing}
 use Rattle.shelf.specs.Views.{viewAt}
 use Rattle.shelf_laws.proofs.ViewLaws.{kept-held}
-use Rattle.shelf_laws.specs.Laws.{KeptByView, MissingByView}
+use Rattle.shelf_laws.specs.Inner.{KeptByView, MissingByView}
 
 pub kept-by-view : KeptByView
 unfolding viewAt

@@ -13,7 +13,8 @@ use borrow.Author.Tests.{ltb-false, ltb-true}
 use Rattle.logic.specs.Choices.{pick}
 use Rattle.logic.proofs.LoopLaws.{both, each-past, isnt, same-or-not, true-false}
 use Rattle.section.specs.declared.header.Header.{Header}
-use Rattle.shelf_state.specs.Records.{blankPlace, dropped, holds, holdsFor, placeAt, release, setWatch, watchAt}
+use Rattle.shelf_state.specs.Records.{blankPlace, holds, holdsFor, placeAt, watchAt}
+use Rattle.shelf_state.specs.Searches.{dropped, release, setWatch}
 use Rattle.shelf_state.specs.declared.records.Place.{Place}
 use Rattle.shelf_state.specs.declared.records.Shelf.{Shelf}
 use Rattle.shelf_state.proofs.DropLaws.{drop-nobody, place-is, release-other}

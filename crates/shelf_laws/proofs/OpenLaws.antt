@@ -10,7 +10,8 @@ use borrow.Author.Tests.{leb-true, ltb-true}
 use Rattle.logic.specs.Loops.{_&_}
 use Rattle.logic.proofs.LoopLaws.{any-first, first-has, isnt, none-at, not-e, true-false}
 use Rattle.refusal.specs.Outcomes.{result}
-use Rattle.shelf_state.specs.Records.{freeRecord, isOf, sameKey, setWatch, watchAt, watched}
+use Rattle.shelf_state.specs.Records.{isOf, sameKey, watchAt}
+use Rattle.shelf_state.specs.Searches.{freeRecord, setWatch, watched}
 use Rattle.shelf_state.specs.Rules.{inRange, obeys, promised, quotaOf}
 use Rattle.shelf_state.specs.declared.records.Asked.{Asked}
 use Rattle.shelf_state.specs.declared.records.Shelf.{Shelf}
@@ -22,7 +23,8 @@ use Rattle.shelf.specs.Calls.{answered, fresh, opened, openedInRange}
 use Rattle.shelf.specs.Steps.{State}
 use Rattle.shelf.specs.Views.{Opening, freshView, keptAt, nextView, opens, view, viewAt}
 use Rattle.shelf.proofs.CallLaws.{go-on, passed}
-use Rattle.shelf_laws.specs.Laws.{OpeningKeeps, quotaClosed, quotaOpened}
+use Rattle.shelf_laws.specs.Laws.{quotaClosed, quotaOpened}
+use Rattle.shelf_laws.specs.Stays.{OpeningKeeps}
 use Rattle.shelf_laws.proofs.MoveLaws.{Moves, by-key, other-key, own-key, promised-moves}
 use Rattle.shelf_laws.proofs.ViewLaws.{kept-none}
 

@@ -10,7 +10,8 @@ use Rattle.logic.proofs.LoopLaws.{any-first, first-has, true-false}
 use Rattle.part.specs.declared.Part.{Part}
 use Rattle.refusal.specs.Outcomes.{Outcome, refused, result}
 use Rattle.section.specs.declared.header.Header.{Header}
-use Rattle.shelf_state.specs.Records.{freeRecord, holds, placeAt, placeOf, watchOf}
+use Rattle.shelf_state.specs.Records.{holds, placeAt}
+use Rattle.shelf_state.specs.Searches.{freeRecord, placeOf, watchOf}
 use Rattle.shelf_state.specs.Rules.{obeys}
 use Rattle.shelf_state.specs.declared.records.Asked.{Asked}
 use Rattle.shelf_state.specs.declared.records.Shelf.{Shelf}
@@ -25,7 +26,8 @@ use Rattle.refusal.proofs.OutcomeLaws.{same-result}
 use Rattle.shelf.proofs.CallLaws.{passed}
 use Rattle.shelf.proofs.JudgeLaws.{judged-sound}
 use Rattle.shelf.proofs.OwnerLaws.{area-refused}
-use Rattle.shelf_laws.specs.Laws.{ClosingKeeps, ClosingStays, DeliveryKeeps, DeliveryStays, FetchedInside, LentStays, OpeningKeeps, OpeningStays, QuestionsStay, RefusedStays, isQuestion}
+use Rattle.shelf_laws.specs.Laws.{LentStays, QuestionsStay, RefusedStays, isQuestion}
+use Rattle.shelf_laws.specs.Stays.{ClosingKeeps, ClosingStays, DeliveryKeeps, DeliveryStays, FetchedInside, OpeningKeeps, OpeningStays}
 use Rattle.shelf_laws.proofs.CloseLaws.{closed-keeps, closing-passed}
 use Rattle.shelf_laws.proofs.DeliverLaws.{delivered-keeps, delivery-passed, placeNow, storedTo}
 use Rattle.shelf_laws.proofs.OpenLaws.{opened-keeps, opening-passed}

@@ -5,16 +5,16 @@ use mathlib.Core.Bool.{Bool, false, true}
 use mathlib.Core.List.{List}
 use lib.ListN.{length}
 use borrow.Author.Tests.{eqb-false}
-use Rattle.logic.proofs.LoopLaws.{not-e, true-false}
+use Rattle.logic.proofs.LoopLaws.{isnt, not-e, true-false}
 use Rattle.refusal.specs.Outcomes.{Outcome, refused, result}
 use Rattle.shelf_state.proofs.RuleLaws.{rules}
 use Rattle.shelf_state.specs.Rules.{obeys}
 use Rattle.shelf.specs.Answers.{After}
 use Rattle.shelf.specs.Delivery.{areaAfter, delivered, delivering}
-use Rattle.shelf.specs.Steps.{Lent, State, accepted, did, gave, isResult, lentTo, other, own, ownOr14, step, stepOn, told}
+use Rattle.shelf.specs.Steps.{Lent, State, accepted, did, gave, isResult, lentTo, other, own, ownOr14, step, stepOn, reported}
 use Rattle.shelf.specs.Views.{Call, asks, closes, delivers, fetches, opens}
 use Rattle.shelf_laws.specs.Laws.{AnswerLaw, Obeys, Says, StepLaw}
-use Rattle.shelf_laws.proofs.AnswerLaws.{closing-says, delivery-says, fetching-says, status-says}
+use Rattle.shelf_laws.proofs.AnswerLaws.{closing-says, delivery-says, fetching-says, opening-says, status-says}
 use Rattle.shelf_laws.proofs.CloseLaws.{closing-moves, closing-passed}
 use Rattle.shelf_laws.proofs.DeliverLaws.{delivery-moves, delivery-passed}
 use Rattle.shelf_laws.proofs.MoveLaws.{Moves, asked-moves, fetched-moves, no-move}
@@ -23,9 +23,9 @@ use Rattle.shelf_laws.proofs.StayLaws.{done-at, done-is, questions-stay
 
 pub answer-law : AnswerLaw
 unfolding Says step stepOn delivered
-answer-law x (opens o) ok = tt
+answer-law x (opens o) ok = ap did (opening-says (x .shelf) (x .area) ok (o .key) (o .quota))
 answer-law x (closes c) ok = ap did (closing-says (x .shelf) (x .area) ok (c .key))
-answer-law x (asks q) ok = ap told (status-says (x .shelf) (x .area) ok (q .key))
+answer-law x (asks q) ok = ap reported (status-says (x .shelf) (x .area) ok (q .key))
 answer-law x (fetches f) ok = ap gave (fetching-says (x .shelf) (x .area) ok (f .key) (f .number))
 answer-law x (delivers d) ok = ap did (delivery-says (x .shelf) (x .area) ok (d .pid) (d .bytes))
 
@@ -35,14 +35,14 @@ done-tt (refused k) e = true-false false e refl
 done-tt (result x) e = refl
 
 -- another memory of another length is no area of the shelf
-not-other : {A : Type 0} (x : State) (l : List ℕ) → Obeys x → ownOr14 (length (x .area)) (other l) ≡ true → obeys (x .shelf) (length l) ≡ true → A
-not-other x l ok e f =
-    absurd (eqb-false (length l) (length (x .area)) (not-e _ e) (rules (x .shelf) (length l) f .size .area-is ∙ sym (rules (x .shelf) (length (x .area)) ok .size .area-is)))
+pub other-breaks : (x : State) (l : List ℕ) → Obeys x → ownOr14 (length (x .area)) (other l) ≡ true → obeys (x .shelf) (length l) ≡ false
+other-breaks x l ok e = isnt (obeys (x .shelf) (length l)) (λ f.
+    eqb-false (length l) (length (x .area)) (not-e _ e) (rules (x .shelf) (length l) f .size .area-is ∙ sym (rules (x .shelf) (length (x .area)) ok .size .area-is)))
 
 accepted-moves : (x : State) (u : Lent) (c : Call) → Obeys x → ownOr14 (length (x .area)) u ≡ true
     → accepted (stepOn x u (lentTo x u) c .answer) ≡ true → Moves x c true (stepOn x u (lentTo x u) c .next)
 unfolding step stepOn delivered areaAfter
-accepted-moves x (other l) c ok y e = not-other x l ok y (result-obeys x (other l) l c e)
+accepted-moves x (other l) c ok y e = true-false _ (result-obeys x (other l) l c e) (other-breaks x l ok y)
 accepted-moves x own (opens o) ok y e =
     let f = opening-passed (x .shelf) (length (x .area)) (o .key) (o .quota) (done-tt _ e) in
     subst (λ (r : After (Unit {0})). Moves x (opens o) true (record { shelf = r .shelf; area = x .area })) (sym (f .is)) (opening-moves x o f)

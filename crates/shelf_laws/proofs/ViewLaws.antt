@@ -11,7 +11,8 @@ use borrow.Author.Tests.{ltb-true}
 use Rattle.logic.specs.Choices.{pick}
 use Rattle.logic.specs.Loops.{first}
 use Rattle.logic.proofs.LoopLaws.{any-first, any-none, any-yes, both, first-at, first-cong, first-has, first-split, isnt, none-at, true-false}
-use Rattle.shelf_state.specs.Records.{holds, holdsFor, isHeld, isOf, placeAt, placeOf, watchAt, watchOf, watched}
+use Rattle.shelf_state.specs.Records.{holds, holdsFor, isOf, placeAt, watchAt}
+use Rattle.shelf_state.specs.Searches.{isHeld, placeOf, watchOf, watched}
 use Rattle.shelf_state.specs.declared.records.Asked.{Asked}
 use Rattle.shelf_state.specs.declared.records.Shelf.{Shelf}
 use Rattle.shelf_state.proofs.RecordLaws.{for-i, holds-parts, isOf-key, isOf-live}

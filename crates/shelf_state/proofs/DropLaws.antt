@@ -7,7 +7,8 @@ use Rattle.logic.specs.Choices.{pick}
 use Rattle.logic.proofs.LoopLaws.{each-at, isnt, length-each, true-false}
 use Rattle.shelf_state.proofs.RecordLaws.{holds-free, holds-parts, for-parts}
 use Rattle.shelf_state.proofs.RuleLaws.{Owned, Rules}
-use Rattle.shelf_state.specs.Records.{blankPlace, dropped, holds, placeAt, release, holdsFor}
+use Rattle.shelf_state.specs.Records.{blankPlace, holds, placeAt, holdsFor}
+use Rattle.shelf_state.specs.Searches.{dropped, release}
 use Rattle.shelf_state.specs.declared.records.Place.{Place}
 use Rattle.shelf_state.specs.declared.records.Shelf.{Shelf}
 

@@ -6,8 +6,9 @@ use mathlib.Core.List.{List}
 use lib.ListN.{getD, replicate}
 use borrow.Author.Tests.{eq-eqb, eqb-true}
 use Rattle.logic.proofs.LoopLaws.{and-i, and-left, and-right, each-more, isnt, true-false}
-use Rattle.logic.specs.Loops.{each}
-use Rattle.shelf_state.specs.Records.{asked, blankPlace, dropBelow, holds, isOf, placeAt, release, sameKey, setPlace, holdsFor}
+use Rattle.logic.specs.Inner.{each}
+use Rattle.shelf_state.specs.Records.{asked, blankPlace, holds, isOf, placeAt, sameKey, holdsFor}
+use Rattle.shelf_state.specs.Searches.{dropBelow, release, setPlace}
 use Rattle.shelf_state.specs.declared.records.Asked.{Asked}
 use Rattle.shelf_state.specs.declared.records.Place.{Place}
 use Rattle.shelf_state.specs.declared.records.Shelf.{Shelf}

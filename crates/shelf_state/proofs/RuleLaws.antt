@@ -15,7 +15,8 @@ use Rattle.logic.proofs.CountLaws.{Sorted, count-by, count-gap, count-none, cou
 use Rattle.logic.proofs.LoopLaws.{all-at, all-i, and-i, and-left, and-right, any-none, both, first-has, if-i, if-then, isnt, neither-below, none-at, not-e, not-i, same-truth, true-false}
 use Rattle.shelf_state.proofs.RecordLaws.{holds-i, holds-parts, isOf-key, isOf-live, for-i, for-parts}
 use Rattle.logic.specs.Loops.{any, count}
-use Rattle.shelf_state.specs.Records.{asked, freePlace, holds, isHeld, isOf, placeAt, holdsFor, watchAt, watchOf}
+use Rattle.shelf_state.specs.Records.{asked, holds, isOf, placeAt, holdsFor, watchAt}
+use Rattle.shelf_state.specs.Searches.{freePlace, isHeld, watchOf}
 use Rattle.shelf_state.specs.Rules.{heldBy, inRange, keysDiffer, keysInRange, lastBelowQuota, lengthsFit, noneAboveQuota, noneTwice, obeys, placesOwned, promised, quotaOf, quotasFit, sizesFit, sizesInRange, unheardEmpty, watchable}
 use Rattle.shelf_state.specs.Tests.{keyIsNew, lastOk, ownerOk, placeOk, soundUnder, tested, watchOk, watchSound}
 use Rattle.shelf_state.specs.declared.records.Asked.{Asked}

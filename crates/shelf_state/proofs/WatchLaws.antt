@@ -10,7 +10,8 @@ use Rattle.logic.proofs.CountLaws.{sum-at}
 use Rattle.logic.proofs.LoopLaws.{isnt, same-or-not, true-false}
 use Rattle.shelf_state.proofs.RecordLaws.{isOf-i, isOf-key, isOf-live, for-i}
 use Rattle.shelf_state.proofs.RuleLaws.{Owned, Rules}
-use Rattle.shelf_state.specs.Records.{asked, blankWatch, isOf, placeAt, setWatch, holdsFor, watchAt}
+use Rattle.shelf_state.specs.Records.{asked, blankWatch, isOf, placeAt, holdsFor, watchAt}
+use Rattle.shelf_state.specs.Searches.{setWatch}
 use Rattle.shelf_state.specs.Rules.{inRange, promised, quotaOf}
 use Rattle.shelf_state.specs.declared.records.Shelf.{Shelf}
 use Rattle.shelf_state.specs.declared.records.Watch.{Watch}

@@ -1,7 +1,8 @@
 // The records, narrow, and keys: how they are kept, made and compared.
 ghost use mathlib.Core.Path.{_≡_};
 ghost use Prim.Native.Nat.{_<_};
-ghost use Rattle.shelf_state.specs.Records.{asked, keyOf, sameKey, isOf, holdsFor, holds};
+ghost use Rattle.shelf_state.specs.Records.{asked, sameKey, isOf, holdsFor, holds};
+ghost use Rattle.shelf_state.specs.Searches.{keyOf};
 
 // A watch's key as its record keeps it.
 #[repr(C)]

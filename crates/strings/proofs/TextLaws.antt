@@ -7,7 +7,8 @@ use lib.ListN.{length, length-append}
 use Rattle.bytes_at.specs.declared.Walk.the-variants.{To}
 use Rattle.bytes_at.specs.Fields.{byteAt}
 use Rattle.bytes_at.proofs.WalkLaws.{then-inv, skipped}
-use Rattle.format.specs.Lawful.{Lies, Bytes}
+use Rattle.format.specs.Lawful.{Lies}
+use Rattle.format.specs.Repeats.{Bytes}
 use Rattle.format.specs.Formats.{walks, walksAll}
 use Rattle.format.specs.Laws.OfValues.{bytes-length}
 use Rattle.format.specs.Values.{bytesOf}

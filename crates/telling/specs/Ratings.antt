@@ -1,7 +1,8 @@
 -- The numbers of a rating, of a descriptor and of an advisory's text. SCOPE 3.3, 3.4 and 6.
 use Prim.Native.Nat.{ℕ}
 use mathlib.Core.List.{List, [], _∷_}
-use Rattle.rating.specs.Values.{Rated, noAdvisory, regionAbsent, dimensionAbsent, value, Descriptor, TextPart}
+use Rattle.part.specs.declared.Part.{Part}
+use Rattle.rating.specs.Values.{Rated, noAdvisory, regionAbsent, dimensionAbsent, value, Descriptor}
 use Rattle.refusal.specs.Outputs.{noValue}
 
 -- which answer it is, and the value; an answer without one has no value
@@ -16,5 +17,5 @@ abbrev pub descriptorNumbers : Descriptor → List ℕ
 descriptorNumbers d = d .tag ∷ d .start ∷ d .size ∷ []
 
 -- where the text begins, and how many bytes it has
-abbrev pub textNumbers : TextPart → List ℕ
-textNumbers p = p .start ∷ p .size ∷ []
+abbrev pub textNumbers : Part → List ℕ
+textNumbers p = p .start ∷ p .length ∷ []

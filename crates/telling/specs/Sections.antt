@@ -4,7 +4,7 @@ use mathlib.Core.List.{List, [], _∷_}
 use Rattle.refusal.specs.Outcomes.{Outcome, refused, result}
 use Rattle.kind.specs.Kinds.{tableIdOf}
 use Rattle.section.specs.declared.header.Header.{Header}
-use Rattle.section.specs.Sections.{Verdict, refusedBy, brokenAt, soundWith}
+use Rattle.section.specs.Answers.{Verdict, refusedBy, brokenAt, soundWith}
 use Rattle.refusal.specs.Outputs.{noValue}
 
 -- table_id, table_id_extension, version_number, current_next_indicator, section_number, last_section_number

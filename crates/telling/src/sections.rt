@@ -8,8 +8,8 @@ use section::Header;
 use section::inner::Inspected;
 ghost use mathlib.Core.Path.{_≡_};
 ghost use mathlib.Core.List.{map};
-ghost use Rattle.section.specs.Headers.{headOutcome};
-ghost use Rattle.section.specs.Sections.{verdictOf};
+ghost use Rattle.section.specs.Answers.{headOutcome};
+ghost use Rattle.section.specs.Answers.{verdictOf};
 ghost use Rattle.telling.specs.Told.{Told, noted, oneNumber};
 ghost use Rattle.telling.specs.Sections.{headerNumbers, faultOf};
 

@@ -9,15 +9,15 @@ use Rattle.refusal.specs.Outputs.{counted}
 use Rattle.refusal.proofs.OutcomeLaws.{same-result, not-both}
 use Rattle.refusal.proofs.OutputLaws.{from-number}
 use Rattle.bytes_at.specs.Fields.{byteAt}
-use Rattle.format.specs.Lawful.{Bytes}
+use Rattle.format.specs.Repeats.{Bytes}
 use Rattle.format.specs.Formats.{walks}
 use Rattle.strings.specs.Strings.{segment}
 use Rattle.text.specs.declared.answer.Amount.{Amount}
 use Rattle.text.specs.declared.segments.Way.{Way}
 use Rattle.text.specs.Answers.{amountOf}
-use Rattle.text.specs.Segments.{wayOf, replacedBy, segmentReplaced}
+use Rattle.text.specs.Segments.{wayOf, replacedBy}
+use Rattle.text.specs.Strings.{segmentReplaced, stringAt, joinedReplaced, stringReplaced}
 use Rattle.bytes_at.specs.Walks.{standing}
-use Rattle.text.specs.Strings.{stringAt, joinedReplaced, stringReplaced}
 use Rattle.text.specs.Values.{toldFrom}
 
 pub amount-result : (p : ℕ) (us : List ℕ) → amountOf p (result us) ≡ result (record { units = length us; replaced = p })

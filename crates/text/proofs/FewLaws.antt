@@ -13,7 +13,7 @@ use Rattle.refusal.specs.Outcomes.{Outcome, refused, result, after}
 use Rattle.refusal.proofs.OutcomeLaws.{same-result, not-both}
 use Rattle.refusal.proofs.TestLaws.{passed-lt, either-way}
 use Rattle.annex_c.specs.Codes.{Reading}
-use Rattle.format.specs.Formats.{walks, last, times}
+use Rattle.format.specs.Formats.{walks, lastByte, times}
 use Rattle.format.proofs.FieldLaws.{fields-end}
 use Rattle.format.proofs.FormatLaws.{head-forward}
 use Rattle.segment.specs.declared.Judged.{Judged}
@@ -26,9 +26,9 @@ use Rattle.segment.proofs.TextLaws.{Fits, fits-count}
 use Rattle.segment.proofs.SegmentLaws.{coded-fits}
 use Rattle.strings.specs.Strings.{segment, string}
 use Rattle.text.specs.declared.segments.Way.{Way}
-use Rattle.text.specs.declared.segments.Way.the-variants.{Bytes, Utf16, Titles, Descriptions, Unread}
-use Rattle.text.specs.Segments.{utf16Units, unitsOrRefusal, unitsBy, segmentUnits, pairs}
-use Rattle.text.specs.Strings.{stringCount, stringAt, joinedUnits, stringUnits}
+use Rattle.text.specs.declared.segments.Way.the-variants.{Plain, Utf16, Titles, Descriptions, Unread}
+use Rattle.text.specs.Segments.{utf16Units, unitsOrRefusal, unitsBy, pairs}
+use Rattle.text.specs.Strings.{segmentUnits, stringCount, stringAt, joinedUnits, stringUnits}
 use Rattle.text.specs.Values.{joined}
 use Rattle.text.proofs.UnitLaws.{pairs-length, judged-refusal}
 
@@ -60,7 +60,7 @@ utf16-few s = either-way (Few (8 * length s)) 11 _ (result (pairs s)) (omega ari
 
 way-few : (w : Way) (s : List ℕ) → Few (8 * length s) (unitsBy w s)
 unfolding unitsBy titleText descriptionText
-way-few Bytes s = omega arith
+way-few Plain s = omega arith
 way-few Utf16 s = utf16-few s
 way-few Titles s = compressed-few _ s
 way-few Descriptions s = compressed-few _ s
@@ -119,7 +119,7 @@ unfolding many string
 strings-forward s end zero at b w = omega (arith, to-is at b w)
 strings-forward s end (suc k) at b w =
     let p = then-inv _ _ b w in
-    let f = head-forward 24 (8 ∷ []) 4 refl last (times segment) s end at (p .0) (p .1 .0) in
+    let f = head-forward 24 (8 ∷ []) 4 refl lastByte (times segment) s end at (p .0) (p .1 .0) in
     omega (arith, f, strings-forward s end k (p .0) b (p .1 .1))
 
 module _ (s : List ℕ) (end at k b : ℕ) where

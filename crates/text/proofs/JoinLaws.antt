@@ -24,8 +24,7 @@ use Rattle.text.specs.declared.answer.Number.the-variants.{Value, Refuse
 use Rattle.text.specs.declared.answer.Units.{Units}
 use Rattle.text.specs.declared.answer.Units.the-variants as amounts
 use Rattle.text.specs.Answers.{amountOf}
-use Rattle.text.specs.Segments.{segmentUnits}
-use Rattle.text.specs.Strings.{joinedUnits}
+use Rattle.text.specs.Strings.{segmentUnits, joinedUnits}
 use Rattle.text.specs.Values.{joined}
 use Rattle.refusal.specs.Outputs.{counted}
 use Rattle.text.specs.Inner.{plainUnits, joinedOf, joinedPlain, storedUnits, Wrote, WroteAll}

@@ -25,7 +25,8 @@ use Rattle.text.specs.declared.answer.Units.{Units}
 use Rattle.text.specs.declared.answer.Units.the-variants as amounts
 use Rattle.text.specs.declared.answer.Number.{Number}
 use Rattle.text.specs.declared.answer.Number.the-variants.{Value, Refused}
-use Rattle.text.specs.Segments.{unitsOrRefusal, segmentUnits}
+use Rattle.text.specs.Segments.{unitsOrRefusal}
+use Rattle.text.specs.Strings.{segmentUnits}
 use Rattle.text.specs.Inner as inner
 use Rattle.text.specs.Inner.{Wrote, Once, WroteAll, OnceAll}
 use Rattle.refusal.proofs.OutcomeLaws.{same-result, not-both}

@@ -10,15 +10,16 @@ use Rattle.bytes_at.specs.Walks.{fieldsTo, then, many, standing}
 use Rattle.bytes_at.proofs.BitLaws.{byte-bits, all-at, join-at}
 use Rattle.refusal.specs.Outcomes.{Outcome, refused, after}
 use Rattle.refusal.proofs.OutcomeLaws.{after-result}
-use Rattle.format.specs.Lawful.{Lies, Bytes, All, encs}
-use Rattle.format.specs.Formats.{walks, last, raw, times}
+use Rattle.format.specs.Lawful.{Lies}
+use Rattle.format.specs.Repeats.{Bytes, All, encs}
+use Rattle.format.specs.Formats.{walks, lastByte, raw, times}
 use Rattle.format.specs.Values.{bits, number, bytesOf}
 use Rattle.format.specs.Laws.OfBytes.{lies-split, fields-fit}
 use Rattle.format.specs.Laws.OfValues.{bytes-length}
 use Rattle.format.specs.Laws.OfTold.{told-there, last-tells}
 use Rattle.strings.specs.Strings.{SegmentFields, StringFields, segment, string}
-use Rattle.text.specs.Segments.{wayOf, segmentUnits, replacedBy, segmentReplaced}
-use Rattle.text.specs.Strings.{headingBefore, joinedUnits, joinedReplaced}
+use Rattle.text.specs.Segments.{wayOf, replacedBy}
+use Rattle.text.specs.Strings.{segmentUnits, segmentReplaced, headingBefore, joinedUnits, joinedReplaced}
 use Rattle.text.specs.Values.{joined, segmentFor, segmentsFor, replacedFor, headingFor, ofString}
 use Rattle.text.proofs.UnitLaws.{units-at}
 use Rattle.text.proofs.AmountLaws.{told-result}
@@ -35,7 +36,7 @@ module _ (s : List ℕ) (z : Bytes s) where
       → (segmentUnits s a ≡ segmentFor g) × (segmentReplaced s a ≡ replacedBy (wayOf (g .compression) (g .mode))))
   unfolding segment segmentReplaced
   segment-there a g o l =
-      let t = told-there (bits 8 ∷ bits 8 ∷ []) 8 3 refl last (λ v m. m) (last-tells (bits 8 ∷ bits 8 ∷ []) 2 refl) (raw 1) (λ x. length x)
+      let t = told-there (bits 8 ∷ bits 8 ∷ []) 8 3 refl lastByte (λ v m. m) (last-tells (bits 8 ∷ bits 8 ∷ []) 2 refl) (raw 1) (λ x. length x)
       (λ v m x o. o .0) s a (g .compression, (g .mode, record {})) (g .bytes) o l in
       let c = byte-field a a 0 (omega arith) ∙ ap (λ v. v .0) (t .0 .0) in
       let m = byte-field a (a + 1) 1 refl ∙ ap (λ v. v .1 .0) (t .0 .0) in
@@ -66,7 +67,7 @@ module _ (s : List ℕ) (z : Bytes s) where
       → (headingBefore s (b + 4) ≡ headingFor x) × Lies (encs (segment .enc) (x .segments)) s (b + 4))
   unfolding segment string
   string-there b x o l =
-      let t = told-there (bits 24 ∷ []) 8 4 refl last (λ v m. m) (last-tells (bits 24 ∷ []) 3 refl) (times segment) (λ x. length x)
+      let t = told-there (bits 24 ∷ []) 8 4 refl lastByte (λ v m. m) (last-tells (bits 24 ∷ []) 3 refl) (times segment) (λ x. length x)
       (λ v m x o. o .0) s b (x .language, record {}) (x .segments) o l in
       let low = join-at s b 8 8 8 (byte-field b (b + 4 - 3) 1 (omega arith)) (byte-field b (b + 4 - 2) 2 (omega arith)) in
       let all = join-at s b 0 8 16 (byte-field b (b + 4 - 4) 0 (omega arith)) low in

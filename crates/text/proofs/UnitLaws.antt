@@ -18,7 +18,8 @@ use Rattle.segment.specs.Text as texts
 use Rattle.segment.proofs.TextLaws.{Fits}
 use Rattle.text.specs.declared.answer.Number.the-variants as answers
 use Rattle.text.specs.declared.segments.Way.{Way}
-use Rattle.text.specs.Segments.{wayOf, pairs, utf16Units, unitsBy, segmentUnits}
+use Rattle.text.specs.Segments.{wayOf, pairs, utf16Units, unitsBy}
+use Rattle.text.specs.Strings.{segmentUnits}
 use Rattle.text.specs.Inner.{plainPairs, plainBy, plainUnits, storedUnits, Wrote}
 use Rattle.refusal.proofs.OutputLaws.{counted-result, counted-refused}
 

@@ -13,7 +13,8 @@ use Rattle.bytes_at.specs.declared.Walk.the-variants.{To, Bad}
 use Rattle.logic.proofs.ChoiceLaws.{eq-yes, eq-no}
 use Rattle.refusal.specs.Outcomes.{Outcome, refused, result, after}
 use Rattle.refusal.proofs.OutcomeLaws.{after-refused}
-use Rattle.format.specs.Lawful.{Lies, Bytes, All, encs}
+use Rattle.format.specs.Lawful.{Lies}
+use Rattle.format.specs.Repeats.{Bytes, All, encs}
 use Rattle.format.specs.Formats.{walksAll}
 use Rattle.format.specs.Values.{bytesOf}
 use Rattle.format.specs.Laws.OfValues.{bytes-length}

@@ -14,7 +14,7 @@ use Rattle.text.specs.declared.answer.Units.{Units}
 use Rattle.text.specs.declared.answer.Units.the-variants.{Are}
 use Rattle.text.specs.declared.answer.Number.{Number}
 use Rattle.text.specs.declared.segments.Way.{Way}
-use Rattle.text.specs.declared.segments.Way.the-variants.{Bytes, Utf16, Titles, Descriptions, Unread}
+use Rattle.text.specs.declared.segments.Way.the-variants.{Plain, Utf16, Titles, Descriptions, Unread}
 use Rattle.text.specs.Answers.{unitsOutcome, numberOutcome, amountOf}
 use Rattle.text.specs.Segments.{wayOf, pairs, unitsBy}
 use Rattle.bytes_at.specs.Walks.{standing}
@@ -28,7 +28,7 @@ plainPairs false s = s
 
 -- a segment, to those who read plain bytes only: a compressed one is of no read pair
 unfoldable pub plainBy : Way → List ℕ → Outcome (List ℕ)
-plainBy Bytes s = unitsBy Bytes s
+plainBy Plain s = unitsBy Plain s
 plainBy Utf16 s = unitsBy Utf16 s
 plainBy Titles s = refused 10
 plainBy Descriptions s = refused 10

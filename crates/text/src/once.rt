@@ -20,8 +20,8 @@ ghost use Rattle.annex_c.specs.Tree.{walked};
 ghost use Rattle.trees.specs.Which.{tableOf};
 ghost use Rattle.bytes_at.specs.Fields.{byteAt};
 ghost use Rattle.segment.specs.Segment.{segmentText};
-ghost use Rattle.text.specs.Segments.{unitsOrRefusal, unitsBy, segmentUnits};
-ghost use Rattle.text.specs.Strings.{joinedUnits, joinedReplaced};
+ghost use Rattle.text.specs.Segments.{unitsOrRefusal, unitsBy};
+ghost use Rattle.text.specs.Strings.{segmentUnits, joinedUnits, joinedReplaced};
 ghost use Rattle.text.specs.Inner.{Wrote, WroteAll, Once, OnceAll};
 
 // A compressed segment.
@@ -43,7 +43,7 @@ fn one_once(way: Way, s: &[u8], o: &mut [u16; 2040], n: usize) -> Number
     ensures { λ r. ⌜ Once (unitsBy way (now (s .entry))) (now (o .entry)) n r (now (o .exit)) ⌝ }
 {
     match way {
-        Way::Bytes => bytes(s, o, n),
+        Way::Plain => bytes(s, o, n),
         Way::Utf16 => utf16(s, o, n),
         Way::Titles => compressed_once(true, s, o, n),
         Way::Descriptions => compressed_once(false, s, o, n),

@@ -15,13 +15,13 @@ ghost use Prim.Native.Nat.{ℕ, _+_, _*_, _^_, _<_, _≤_};
 ghost use lib.ListN.{length, getD, take};
 ghost use lib.Seq.{sets};
 ghost use Rattle.refusal.specs.Outcomes.{result};
-ghost use Rattle.text.specs.Segments.{wayOf, utf16Units, unitsBy, segmentUnits};
-ghost use Rattle.text.specs.Strings.{joinedUnits, joinedReplaced};
+ghost use Rattle.text.specs.Segments.{wayOf, utf16Units, unitsBy};
+ghost use Rattle.text.specs.Strings.{segmentUnits, joinedUnits, joinedReplaced};
 ghost use Rattle.text.specs.Inner.{plainPairs, plainBy, plainUnits, joinedPlain, Wrote, WroteAll};
 
 // How a segment is read.
 pub enum Way {
-    Bytes,
+    Plain,
     Utf16,
     Titles,
     Descriptions,
@@ -33,7 +33,7 @@ pub fn way_of(compression: usize, mode: usize) -> Way
 {
     if mode == 0 {
         return match compression {
-            0 => Way::Bytes,
+            0 => Way::Plain,
             1 => Way::Titles,
             2 => Way::Descriptions,
             _ => Way::Unread,
@@ -113,7 +113,7 @@ fn plain_one(way: Way, s: &[u8], out: &mut [u16], n: usize) -> Number
     ensures { λ r. ⌜ Wrote (plainBy way (now (s .entry))) (now (out .entry)) n r (now (out .exit)) ⌝ }
 {
     match way {
-        Way::Bytes => bytes(s, out, n),
+        Way::Plain => bytes(s, out, n),
         Way::Utf16 => utf16(s, out, n),
         Way::Titles => Number::Refused(Refusal::NotAReadPair),
         Way::Descriptions => Number::Refused(Refusal::NotAReadPair),
@@ -163,7 +163,7 @@ fn is_compressed(way: Way) -> bool
     ensures { λ r. ⌜ ((r ≡ false) → (b : List ℕ) → plainBy way b ≡ unitsBy way b) ⌝ }
 {
     match way {
-        Way::Bytes => false,
+        Way::Plain => false,
         Way::Utf16 => false,
         Way::Titles => true,
         Way::Descriptions => true,

@@ -15,7 +15,7 @@ use Rattle.refusal.specs.Outcomes.{Outcome, refused, result}
 use Rattle.refusal.proofs.OutputLaws.{from-number}
 use Rattle.part.specs.declared.Part.{Part}
 use Rattle.part.specs.Parts.{bytesIn}
-use Rattle.format.specs.Lawful.{Bytes}
+use Rattle.format.specs.Repeats.{Bytes}
 use Rattle.strings.specs.Places.{textAt, textEnd}
 use Rattle.descriptor.specs.Places.{listEnd}
 use Rattle.segment.proofs.TextLaws.{stored}

@@ -16,7 +16,7 @@ use Rattle.eit.specs.Inner.{Events}
 use Rattle.eit.proofs.RowLaws.{row-eight}
 use Rattle.eit.proofs.EventsLaws.{body-events, events-step}
 use Rattle.section.specs.declared.header.Header.{Header}
-use Rattle.section.specs.Bodies.{bodyOf}
+use Rattle.section.specs.Walked.{bodyOf}
 use Rattle.section.specs.Sections.{sectionBy}
 use Rattle.section.proofs.SectionLaws.{section-sound}
 use Rattle.titles.specs.Titles.{TitleTold, noTitle, noStrings, refusedTitle, text, titleTold, unitsTold, blankRow, titleRow, unitsFrom, titleRowsFrom, eventCount, firstEvent, Counts, roomForTitles, titlesIn, withTitleRows, withUnits}

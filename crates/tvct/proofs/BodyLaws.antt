@@ -9,7 +9,8 @@ use Rattle.bytes_at.specs.Walks.{many}
 use Rattle.bytes_at.proofs.WalkLaws.{then-inv, ended}
 use Rattle.format.specs.Formats.{walks, walksAll}
 use Rattle.format.proofs.FieldLaws.{fields-end}
-use Rattle.descriptor.specs.Descriptors.{list10, noTag}
+use Rattle.descriptor.specs.Descriptors.{noTag}
+use Rattle.descriptor.specs.Places.{list10}
 use Rattle.channel.specs.Walked.{channel}
 use Rattle.tvct.specs.Walked.{channels, tvct}
 use Rattle.tvct.specs.Fields.{countAt, firstAt}

@@ -4,7 +4,8 @@ use mathlib.Core.Path.{_≡_, refl}
 use mathlib.Core.List.{List}
 use native.Mathlib.Omega.{arith}
 use lib.ListN.{length, length-append}
-use Rattle.format.specs.Lawful.{Lies, Bytes, encs}
+use Rattle.format.specs.Lawful.{Lies}
+use Rattle.format.specs.Repeats.{Bytes, encs}
 use Rattle.format.specs.Laws.OfBytes.{lies-at, lies-split}
 use Rattle.format.specs.Laws.OfValues.{bytes-length}
 use Rattle.format.specs.Formats.{walksAll}
@@ -12,7 +13,8 @@ use Rattle.format.specs.Values.{bytesOf}
 use Rattle.format.specs.Told.{counted8, sized10}
 use Rattle.format.proofs.SizedLaws.{counted8-there}
 use Rattle.format.proofs.ListedLaws.{Stand}
-use Rattle.descriptor.specs.Descriptors.{descriptors, list10, noTag}
+use Rattle.descriptor.specs.Descriptors.{descriptors, noTag}
+use Rattle.descriptor.specs.Places.{list10}
 use Rattle.descriptor.proofs.ListLaws.{list10-there}
 use Rattle.channel.specs.Format.{channelFormat}
 use Rattle.channel.specs.Walked.{channel}

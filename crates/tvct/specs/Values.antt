@@ -2,7 +2,7 @@
 use Prim.Native.Nat.{ℕ, _+_}
 use mathlib.Core.Path.{_≡_}
 use lib.ListN.{length}
-use Rattle.format.specs.Lawful.{All, encs}
+use Rattle.format.specs.Repeats.{All, encs}
 use Rattle.descriptor.specs.Descriptors.{descriptors, noTag}
 use Rattle.channel.specs.Format.{channelFormat}
 use Rattle.channel.specs.Values.{OnesChannel}

@@ -13,13 +13,13 @@ use Rattle.refusal.specs.Outcomes.{result}
 use Rattle.refusal.specs.Outputs.{counted}
 use Rattle.refusal.proofs.OutputLaws.{from-number}
 use Rattle.kind.specs.declared.Kind.the-variants.{Eit}
-use Rattle.format.specs.Lawful.{encs}
+use Rattle.format.specs.Repeats.{encs}
 use Rattle.format.specs.Formats.{anyBytes}
 use Rattle.format.specs.Laws.OfValues.{bytes-length}
 use Rattle.format.specs.Values.{bytesOf}
 use Rattle.eit.specs.Format.{eventOf, eitOf}
-use Rattle.eit.specs.Given.{eventsGiven, rowsFit, rowsSound, sizeGiven}
-use Rattle.eit.specs.Inner.{RowsGiven}
+use Rattle.eit.specs.Given.{eventsGiven, rowsFit, rowsSound}
+use Rattle.eit.specs.Inner.{sizeGiven, RowsGiven}
 use Rattle.eit.proofs.GivenLaws.{events-length}
 use Rattle.section.specs.declared.write.Given.{Given}
 use Rattle.section.specs.Writing.{headerGiven, headerFits}

@@ -3,8 +3,7 @@ use Prim.Native.Nat.{ℕ, _+_, _≤_}
 use mathlib.Core.Path.{_≡_}
 use mathlib.Core.Bool.{true}
 use mathlib.Core.List.{List}
-use Rattle.eit.specs.Given.{sizeGiven}
-use Rattle.eit.specs.Inner.{RowsGiven}
+use Rattle.eit.specs.Inner.{sizeGiven, RowsGiven}
 use Rattle.section.specs.declared.write.Given.{Given}
 use Rattle.section.specs.Writing.{headerFits}
 

@@ -9,7 +9,8 @@ use Rattle.refusal.specs.Outcomes.{result}
 use Rattle.refusal.proofs.OutcomeLaws.{same-result}
 use Rattle.kind.specs.declared.Kind.the-variants.{Eit}
 use Rattle.kind.specs.Kinds.{onlyOf}
-use Rattle.format.specs.Lawful.{Lies, Bytes, All}
+use Rattle.format.specs.Lawful.{Lies}
+use Rattle.format.specs.Repeats.{Bytes, All}
 use Rattle.format.specs.Laws.OfValues.{bytes-length}
 use Rattle.format.specs.Listed.{allOf}
 use Rattle.format.proofs.ListedLaws.{Stand, first-lies, first-inside, rest-stand}

@@ -12,7 +12,8 @@ use Rattle.refusal.specs.Outcomes.{result}
 use Rattle.refusal.proofs.OutcomeLaws.{same-result, went-on}
 use Rattle.kind.specs.declared.Kind.the-variants.{Ett}
 use Rattle.kind.specs.Kinds.{limitsOf, onlyOf}
-use Rattle.format.specs.Lawful.{Lies, Bytes}
+use Rattle.format.specs.Lawful.{Lies}
+use Rattle.format.specs.Repeats.{Bytes}
 use Rattle.format.specs.Formats.{walksAll}
 use Rattle.format.specs.Laws.OfValues.{bytes-length}
 use Rattle.format.specs.Values.{number, bytesOf}

@@ -1,12 +1,12 @@
 -- This library's writers keep what the statements say.
 use Rattle.writing.specs.Written.{ettWritten, eitWritten}
-use Rattle.writing_laws.specs.RoundTrips.{Keeps}
+use Rattle.writing_laws.specs.RoundTrips.{RoundTrips}
 use Rattle.writing_laws.proofs.EttLaws.{writes-ett, reads-back-ett, rewrites-ett}
 use Rattle.writing_laws.proofs.EitLaws.{writes-eit}
 use Rattle.writing_laws.proofs.ReadLaws.{reads-back-eit}
 use Rattle.writing_laws.proofs.AgainLaws.{rewrites-eit}
 
-pub kept : Keeps ettWritten eitWritten
+pub kept : RoundTrips ettWritten eitWritten
 kept = record {
   ettWrites = writes-ett;
   ettReads = reads-back-ett ettWritten writes-ett;

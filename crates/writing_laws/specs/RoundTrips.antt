@@ -9,7 +9,7 @@ use Rattle.refusal.specs.Outcomes.{Outcome, result}
 use Rattle.kind.specs.declared.Kind.{Kind}
 use Rattle.kind.specs.declared.Kind.the-variants.{Eit, Ett}
 use Rattle.kind.specs.Kinds.{limitsOf, onlyOf}
-use Rattle.format.specs.Lawful.{Bytes}
+use Rattle.format.specs.Repeats.{Bytes}
 use Rattle.format.specs.Values.{behind}
 use Rattle.part.specs.declared.Part.{Part}
 use Rattle.part.specs.Parts.{endOf, bytesIn}
@@ -138,7 +138,7 @@ RewritesEit write =
     → write (givenOf h) (entryCount Event s) (rowsFrom row.Event s (entryCount Event s) (firstEntry Event s)) s room ≡ result s
 
 -- ---- what the two writers of a library promise
-pub record Keeps (ett : EttWriter) (eit : EitWriter) : Type 0 where
+pub record RoundTrips (ett : EttWriter) (eit : EitWriter) : Type 0 where
   pub ettWrites : WritesEtt ett
   pub ettReads : ReadsBackEtt ett
   pub ettRewrites : RewritesEtt ett

@@ -1,5 +1,5 @@
 -- `whole_list10` meets its contract.
-use Rattle.descriptor.specs.Descriptors.{list10}
+use Rattle.descriptor.specs.Places.{list10}
 use Rattle.descriptor.specs.Inner.{sizedDescriptors}
 use borrow.Author.Needs.{needs}
 use Rattle.descriptor.proofs.whole_list10.Statement.{statement}

@@ -1,5 +1,5 @@
 -- `whole_list12` meets its contract.
-use Rattle.descriptor.specs.Descriptors.{list12}
+use Rattle.descriptor.specs.Places.{list12}
 use Rattle.descriptor.specs.Inner.{sizedDescriptors}
 use borrow.Author.Needs.{needs}
 use Rattle.descriptor.proofs.whole_list12.Statement.{statement}

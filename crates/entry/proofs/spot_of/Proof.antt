@@ -1,7 +1,7 @@
 -- `spot_of` meets its contract.
 use mathlib.Core.Path.{sym, ap, _∙_}
 use Rattle.refusal.specs.Outcomes.{after}
-use Rattle.section.specs.Headers.{headOutcome}
+use Rattle.section.specs.Answers.{headOutcome}
 use Rattle.entry.specs.Entries.{spotOf}
 use Rattle.entry.proofs.EntryLaws.{judged-begins}
 use borrow.Author.Needs.{needs}

@@ -13,7 +13,8 @@ use Rattle.bytes_at.specs.declared.Walk.the-variants.{To}
 use Rattle.logic.specs.Choices.{pick}
 use Rattle.bytes_at.specs.Walks.{skipTo, then, ends}
 use Rattle.bytes_at.proofs.WalkLaws.{to-is, then-to, then-inv, skipped, skip-fits, ends-at, ended}
-use Rattle.format.specs.Lawful.{Walker, Lies, Bytes, Lawful, Fills, OkOpt, encOpt, OkSum, encSum}
+use Rattle.format.specs.Lawful.{Walker, Lies, Lawful, Fills}
+use Rattle.format.specs.Repeats.{Bytes, OkOpt, encOpt, OkSum, encSum}
 use Rattle.format.specs.Laws.OfBytes.{pick-inv, same-front, after, bytes-append, lies-at, lies-join, lies-split, part-bytes, part-length, part-lies}
 
 -- ---- n bytes that a format fills

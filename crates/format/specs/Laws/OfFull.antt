@@ -4,7 +4,7 @@ use mathlib.Core.Path.{_≡_}
 use mathlib.Core.List.{List}
 use native.Mathlib.Omega.{arith}
 use lib.ListN.{length, length-append}
-use Rattle.format.specs.Formats.{One, Format, Reader, last, Full, head, times}
+use Rattle.format.specs.Formats.{One, Format, Reader, lastByte, Full, head, times}
 use Rattle.format.specs.Values.{Field, width, Vals, number}
 use Rattle.format.specs.Laws.OfValues.{bytes-length}
 use Rattle.format.specs.Heads.{headBytes, Tells}
@@ -18,4 +18,4 @@ told-full fs n k whole r c tells f tally is h x o =
     omega (arith, length-append (headBytes fs n k (x .0) (tally (x .1))) (f .enc (x .1)), bytes-length k (number fs (x .0) * 2 ^ n + tally (x .1)))
 
 pub counting-full : (fs : List Field) (k : ℕ) (whole : width fs + 8 ≡ 8 * suc k) (f : Format One) → Full (counting fs k whole f)
-counting-full fs k whole f = told-full fs 8 (suc k) whole last (λ v m. m) (last-tells fs k whole) (times f) (λ x. length x) (λ v m x o. o .0) (omega arith)
+counting-full fs k whole f = told-full fs 8 (suc k) whole lastByte (λ v m. m) (last-tells fs k whole) (times f) (λ x. length x) (λ v m x o. o .0) (omega arith)

@@ -6,7 +6,8 @@ use native.Mathlib.Omega.{arith}
 use lib.ListN.{length}
 use lib.Seq.{take-all}
 use Rattle.bytes_at.specs.Bits.{bitsAt}
-use Rattle.format.specs.Lawful.{Lies, Bytes}
+use Rattle.format.specs.Lawful.{Lies}
+use Rattle.format.specs.Repeats.{Bytes}
 use Rattle.format.specs.Values.{Field, width, Vals, Fit, number, bytesOf, valsAt}
 use Rattle.format.specs.Laws.OfValues.{number-lt, number-once, vals-fit, vals-number, lies-number, bytes-part}
 

@@ -11,7 +11,8 @@ use Rattle.bytes_at.specs.declared.Walk.the-variants.{To, Bad}
 use Rattle.logic.specs.Choices.{pick}
 use Rattle.bytes_at.specs.Walks.{then, many, ends}
 use Rattle.bytes_at.proofs.WalkLaws.{to-is, never, then-to, then-inv, ends-at, ended}
-use Rattle.format.specs.Lawful.{Walker, Lies, Bytes, Lawful, Fills, All, encs, unto}
+use Rattle.format.specs.Lawful.{Walker, Lies, Lawful, Fills, unto}
+use Rattle.format.specs.Repeats.{Bytes, All, encs}
 use Rattle.format.specs.Laws.OfBytes.{bytes-append, pick-inv, after, lies-at, lies-join, lies-split}
 
 -- ---- as often as is told

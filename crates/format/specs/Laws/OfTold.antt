@@ -6,9 +6,10 @@ use native.Mathlib.Omega.{arith}
 use lib.ListN.{length}
 use lib.Seq.{take-all, take-length}
 use Rattle.bytes_at.specs.Fields.{byteAt, wordAt}
-use Rattle.format.specs.Lawful.{Lies, Bytes, total}
+use Rattle.format.specs.Lawful.{Lies}
+use Rattle.format.specs.Repeats.{Bytes, total}
 use Rattle.format.specs.Laws.OfBytes.{lies-at, lies-split}
-use Rattle.format.specs.Formats.{Format, Reader, last, lastWord, through, head}
+use Rattle.format.specs.Formats.{Format, Reader, lastByte, lastWord, through, head}
 use Rattle.bytes_at.specs.Bits.{bitsAt}
 use Rattle.bytes_at.proofs.BitLaws.{bits-lt, bits-add, bits-low, byte-bits, word-bits}
 use Rattle.format.specs.Values.{Field, bits, width, steps, Vals, Fit, number, bytesOf, valsAt}
@@ -98,11 +99,11 @@ low16 h k m n z e =
     let j : suc (suc k) - 2 ≡ k = omega arith in
     ap (λ i. wordAt h i % 2 ^ n) j ∙ sym (bits-low h (8 * k) m n (wordAt h k) (ap (bitsAt h (8 * k)) e ∙ word-bits h z k))
 
-pub last-tells : (fs : List Field) (k : ℕ) → width fs + 8 ≡ 8 * suc k → Tells fs 8 (suc k) last (λ v m. m)
+pub last-tells : (fs : List Field) (k : ℕ) → width fs + 8 ≡ 8 * suc k → Tells fs 8 (suc k) lastByte (λ v m. m)
 last-tells fs k whole h l z = let e : 8 * k ≡ 0 + width fs = omega arith in all8 h k z ∙ ap (λ p. bitsAt h p 8) e
 
 pub low16-tells : (fs : List Field) (k m n : ℕ) → m + n ≡ 16 → width fs ≡ 8 * k + m → Tells fs n (suc (suc k)) (through (λ x. x % 2 ^ n) lastWord) (λ v m. m)
 low16-tells fs k m n e f h l z = low16 h k m n z e ∙ ap (λ p. bitsAt h p n) (omega arith)
 
-pub low8-tells : (fs : List Field) (k m n : ℕ) → m + n ≡ 8 → width fs ≡ 8 * k + m → Tells fs n (suc k) (through (λ x. x % 2 ^ n) last) (λ v m. m)
+pub low8-tells : (fs : List Field) (k m n : ℕ) → m + n ≡ 8 → width fs ≡ 8 * k + m → Tells fs n (suc k) (through (λ x. x % 2 ^ n) lastByte) (λ v m. m)
 low8-tells fs k m n e f h l z = low8 h k m n z e ∙ ap (λ p. bitsAt h p n) (omega arith)

@@ -9,7 +9,8 @@ use lib.Pow.{pow-pos, pow-add, high, low, split, shr-lt}
 use lib.ListN.{length, take, drop}
 use lib.Seq.{drop-cons}
 use Rattle.bytes_at.specs.Fields.{byteAt}
-use Rattle.format.specs.Lawful.{Lies, Bytes, total}
+use Rattle.format.specs.Lawful.{Lies}
+use Rattle.format.specs.Repeats.{Bytes, total}
 use Rattle.format.specs.Laws.OfBytes.{lies-at, lies-split, lies-byte}
 use Rattle.bytes_at.specs.Bits.{bitsAt, fieldAt}
 use Rattle.bytes_at.proofs.BitLaws.{bits-lt, bits-add, byte-bits}

@@ -1,7 +1,7 @@
 -- `titles` meets its contract: the judge first, then the rows and the units.
 use mathlib.Core.Path.{sym, ap, _∙_}
 use Rattle.refusal.specs.Outcomes.{after}
-use Rattle.section.specs.Headers.{headOutcome}
+use Rattle.section.specs.Answers.{headOutcome}
 use Rattle.titles.specs.Titles.{titlesOf, withTitleRows, withUnits}
 use Rattle.titles.proofs.TitlesLaws.{judged-events}
 use borrow.Author.Needs.{needs}

@@ -1,5 +1,5 @@
 -- `one_channel` meets its contract.
-use Rattle.descriptor.specs.Descriptors.{list10}
+use Rattle.descriptor.specs.Places.{list10}
 use Rattle.channel.specs.Walked.{channel}
 use Rattle.bytes_at.proofs.WalkLaws.{seq-bad, seq-to}
 use borrow.Author.Needs.{needs}

@@ -1,6 +1,6 @@
 -- `one_event` meets its contract.
 use Rattle.strings.specs.Strings.{sizedText}
-use Rattle.descriptor.specs.Descriptors.{list12}
+use Rattle.descriptor.specs.Places.{list12}
 use Rattle.eit.specs.Walked.{event}
 use Rattle.bytes_at.proofs.WalkLaws.{seq-bad, seq-to}
 use borrow.Author.Needs.{needs}

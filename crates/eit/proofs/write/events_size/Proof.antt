@@ -4,7 +4,7 @@ use mathlib.Core.Path.{_≡_}
 use denote.Ref.{now}
 use native.Mathlib.Omega.{arith}
 use lib.ListN.{length}
-use Rattle.eit.specs.Given.{sizeGiven}
+use Rattle.eit.specs.Inner.{sizeGiven}
 use Rattle.eit.proofs.GivenLaws.{size-first, size-none, size-most}
 use borrow.Author.Needs.{needs}
 use Rattle.eit.proofs.write.events_size.Statement.{statement}

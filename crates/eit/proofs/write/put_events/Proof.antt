@@ -3,7 +3,7 @@ use mathlib.Core.Path.{refl}
 use native.Mathlib.Omega.{arith}
 use lib.ListN.{length}
 use lib.Seq.{sets}
-use Rattle.format.specs.Lawful.{encs}
+use Rattle.format.specs.Repeats.{encs}
 use Rattle.format.specs.Formats.{anyBytes}
 use Rattle.eit.specs.Format.{eventOf}
 use Rattle.eit.specs.Given.{eventsGiven}

@@ -3,7 +3,8 @@ use borrow.Author.Needs.{needs}
 use mathlib.Core.Path.{sym, _∙_}
 use borrow.Author.Tests.{not-false, not-true}
 use mathlib.Core.Path.{ap, subst}
-use Rattle.shelf.specs.Answers.{After, Status}
+use Rattle.shelf.specs.Answers.{After}
+use Rattle.shelf.specs.Views.{Status}
 use Rattle.lent_memory.specs.Inner.{SmallStatus}
 use Rattle.lent_memory.proofs.ReplyLaws.{status-small}
 use Rattle.lent_memory.specs.Meaning.{shelfIn}

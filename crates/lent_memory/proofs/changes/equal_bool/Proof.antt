@@ -1,5 +1,5 @@
 -- `equal_bool` meets its contract.
-use Rattle.lent_memory.specs.Changes.{equalBool}
+use Rattle.logic.specs.Inner.{equalBool}
 use Rattle.lent_memory.proofs.changes.equal_bool.Statement.{statement}
 use Rattle.lent_memory.proofs.changes.equal_bool.Tie as tie
 

@@ -1,7 +1,7 @@
 -- `put_section` meets its contract: 15, then the judge.
 use mathlib.Core.Path.{sym, ap, _∙_}
 use native.Mathlib.Omega.{arith}
-use Rattle.section.specs.Headers.{headOutcome}
+use Rattle.section.specs.Answers.{headOutcome}
 use Rattle.lines.specs.Lines.{outcomeShown}
 use Rattle.lines.proofs.SectionLaws.{no-pid, a-pid}
 use borrow.Author.Needs.{needs}

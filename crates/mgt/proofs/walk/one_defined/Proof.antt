@@ -1,6 +1,6 @@
 -- `one_defined` meets its contract.
 use Rattle.mgt.specs.Walked.{defined}
-use Rattle.descriptor.specs.Descriptors.{list12}
+use Rattle.descriptor.specs.Places.{list12}
 use Rattle.bytes_at.proofs.WalkLaws.{seq-bad, seq-to}
 use borrow.Author.Needs.{needs}
 use Rattle.mgt.proofs.walk.one_defined.Statement.{statement}

@@ -2,7 +2,7 @@
 use mathlib.Core.Path.{sym, ap, _∙_}
 use borrow.Author.Needs.{needs}
 use Rattle.refusal.specs.Outcomes.{after}
-use Rattle.section.specs.Headers.{headOutcome}
+use Rattle.section.specs.Answers.{headOutcome}
 use Rattle.rows.specs.declared.Row.the-variants.{Dimension}
 use Rattle.rows.specs.Values.{valueRowsOf, withValueRows}
 use Rattle.rows.proofs.RowsLaws.{judged-rows}

@@ -1,5 +1,5 @@
 -- `body_test` meets its contract.
-use Rattle.section.specs.Sections.{bodyTest}
+use Rattle.section.specs.Answers.{bodyVerdict}
 use borrow.Author.Needs.{needs}
 use Rattle.section.proofs.inner.body_test.Statement.{statement}
 use Rattle.section.proofs.inner.body_test.Tie as tie
@@ -20,13 +20,13 @@ enum-known-x : tie.Need-enum-known-x
 enum-known-x c = search needs
 
 returns : tie.Need-returns
-unfolding bodyTest
+unfolding bodyVerdict
 returns c = let w = c .before .before in
     let e = rw (w .before .before .body-end .ensures, w .before .body-start .ensures .0) at (w .whole-body .ensures) in
     rw (← e, c .enum-told .given .1)
 
 returns-2 : tie.Need-returns-2
-unfolding bodyTest
+unfolding bodyVerdict
 returns-2 c = let w = c .before .before .before in
     let e = rw (w .before .before .body-end .ensures, w .before .body-start .ensures .0) at (w .whole-body .ensures) in
     rw (← e, c .before .x .given .1)

@@ -1,5 +1,5 @@
 -- `inspect_any` meets its contract: the header's tests, then the body.
-use Rattle.section.specs.Sections.{verdictBy}
+use Rattle.section.specs.Answers.{verdictBy}
 use borrow.Author.Needs.{needs}
 use Rattle.section.proofs.inner.inspect_any.Statement.{statement}
 use Rattle.section.proofs.inner.inspect_any.Tie as tie

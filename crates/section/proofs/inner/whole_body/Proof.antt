@@ -1,5 +1,5 @@
 -- `whole_body` meets its contract.
-use Rattle.section.specs.Bodies.{bodyOf}
+use Rattle.section.specs.Walked.{bodyOf}
 use borrow.Author.Needs.{needs}
 use Rattle.section.proofs.inner.whole_body.Statement.{statement}
 use Rattle.section.proofs.inner.whole_body.Tie as tie

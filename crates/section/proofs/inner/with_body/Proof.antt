@@ -1,5 +1,5 @@
 -- `with_body` meets its contract: a refusal goes first, then the body.
-use Rattle.section.specs.Sections.{withBody}
+use Rattle.section.specs.Answers.{withBody}
 use borrow.Author.Needs.{needs}
 use Rattle.section.proofs.inner.with_body.Statement.{statement}
 use Rattle.section.proofs.inner.with_body.Tie as tie

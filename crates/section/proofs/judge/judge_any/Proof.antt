@@ -1,6 +1,6 @@
 -- `judge_any` meets its contract: what inspecting finds, by its number alone.
-use Rattle.section.specs.Sections.{sectionBy}
 use borrow.Author.Needs.{needs}
+use Rattle.section.proofs.SectionLaws.{plain-verdict}
 use Rattle.section.proofs.judge.judge_any.Statement.{statement}
 use Rattle.section.proofs.judge.judge_any.Tie as tie
 
@@ -11,8 +11,7 @@ plain-requires : tie.Need-plain-requires
 plain-requires c κs = search needs
 
 returns : tie.Need-returns
-unfolding sectionBy
-returns c = rw (← c .before .inspect-any .ensures) (c .plain .ensures)
+returns c = rw (← plain-verdict _ _, ← c .before .inspect-any .ensures) (c .plain .ensures)
 
 pub judge-any-spec : {M : Type 1} → statement M
 judge-any-spec = tie.close (tie.spec inspect-any-requires plain-requires returns)

@@ -1,6 +1,6 @@
 -- `judge_kind` meets its contract: what inspecting finds, by its number alone.
-use Rattle.section.specs.Sections.{sectionBy}
 use borrow.Author.Needs.{needs}
+use Rattle.section.proofs.SectionLaws.{plain-verdict}
 use Rattle.section.proofs.judge.judge_kind.Statement.{statement}
 use Rattle.section.proofs.judge.judge_kind.Tie as tie
 
@@ -11,8 +11,7 @@ plain-requires : tie.Need-plain-requires
 plain-requires c κs = search needs
 
 returns : tie.Need-returns
-unfolding sectionBy
-returns c = rw (← c .before .inspect-kind .ensures) (c .plain .ensures)
+returns c = rw (← plain-verdict _ _, ← c .before .inspect-kind .ensures) (c .plain .ensures)
 
 pub judge-kind-spec : {M : Type 1} → statement M
 judge-kind-spec = tie.close (tie.spec inspect-kind-requires plain-requires returns)

@@ -2,7 +2,7 @@
 use mathlib.Core.Path.{sym, ap, _∙_}
 use Rattle.refusal.specs.Outcomes.{after}
 use Rattle.kind.specs.Kinds.{onlyOf}
-use Rattle.section.specs.Headers.{headOutcome}
+use Rattle.section.specs.Answers.{headOutcome}
 use Rattle.section.specs.Sections.{sectionBy}
 use Rattle.section_text.specs.Fields.{fieldOf}
 use Rattle.section_text.proofs.PlaceLaws.{judged-begun}

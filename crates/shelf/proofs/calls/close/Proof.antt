@@ -6,7 +6,8 @@ use borrow.Author.Tests.{not-false, not-true}
 use borrow.Author.Needs.{needs}
 use Rattle.logic.proofs.LoopLaws.{any-no, any-yes}
 use Rattle.shelf_state.proofs.RuleLaws.{rules-of}
-use Rattle.shelf_state.specs.Records.{blankWatch, dropped, setWatch}
+use Rattle.shelf_state.specs.Records.{blankWatch}
+use Rattle.shelf_state.specs.Searches.{dropped, setWatch}
 use Rattle.shelf.proofs.CallLaws.{go-on, stop}
 use Rattle.shelf.specs.Calls.{answered, closed}
 use Rattle.shelf.proofs.calls.close.Statement.{statement}

@@ -5,7 +5,7 @@ use mathlib.Core.Bool.{not}
 use borrow.Author.Tests.{not-false, not-true}
 use borrow.Author.Needs.{needs}
 use Rattle.logic.proofs.LoopLaws.{any-no, any-yes}
-use Rattle.shelf_state.specs.Records.{setWatch}
+use Rattle.shelf_state.specs.Searches.{setWatch}
 use Rattle.shelf_state.specs.declared.records.Watch.{Watch}
 use Rattle.shelf.proofs.CallLaws.{go-on, stop}
 use Rattle.shelf.specs.Calls.{answered, openedInRange}

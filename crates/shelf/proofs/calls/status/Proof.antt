@@ -9,9 +9,8 @@ use Rattle.logic.proofs.LoopLaws.{any-no, any-yes}
 use Rattle.shelf_state.proofs.RuleLaws.{held-numbers, rules-of}
 use Rattle.shelf_state.specs.Records.{watchAt}
 use Rattle.shelf.proofs.CallLaws.{go-on, stop}
-use Rattle.shelf.specs.Answers.{Status}
+use Rattle.shelf.specs.Views.{Status, statusOf}
 use Rattle.shelf.specs.Calls.{heldNumbers, statusAfter}
-use Rattle.shelf.specs.Views.{statusOf}
 use Rattle.shelf.proofs.calls.status.Statement.{statement}
 use Rattle.shelf.proofs.calls.status.Tie as tie
 

@@ -1,7 +1,7 @@
 -- `without` meets its contract.
 use mathlib.Core.Path.{_∙_, ap}
 use borrow.Author.Needs.{needs}
-use Rattle.shelf_state.specs.Records.{dropped, setWatch}
+use Rattle.shelf_state.specs.Searches.{dropped, setWatch}
 use Rattle.shelf_state.specs.declared.records.Watch.{Watch}
 use Rattle.shelf.proofs.calls.without.Statement.{statement}
 use Rattle.shelf.proofs.calls.without.Tie as tie

@@ -4,7 +4,7 @@ use lib.ListN.{length}
 use borrow.Author.Tests.{le-leb, lt-leb}
 use borrow.Author.Needs.{needs}
 use Rattle.refusal.specs.Numbers.{numberOf}
-use Rattle.section.specs.Headers.{headOutcome}
+use Rattle.section.specs.Answers.{headOutcome}
 use Rattle.shelf_state.specs.declared.records.Asked.{Asked}
 use Rattle.shelf.proofs.CallLaws.{go-on, stop}
 use Rattle.shelf.proofs.JudgeLaws.{judged-sound}

@@ -5,7 +5,7 @@ use native.Mathlib.Omega.{arith}
 use borrow.Author.Needs.{needs}
 use Rattle.logic.proofs.LoopLaws.{at-end}
 use Rattle.shelf_state.proofs.RecordLaws.{drop-none, drop-step}
-use Rattle.shelf_state.specs.Records.{dropBelow}
+use Rattle.shelf_state.specs.Searches.{dropBelow}
 use Rattle.shelf.proofs.OwnerLaws.{area-at, below-count, count-after, edited-by, kept-after, narrow, place-inside}
 use Rattle.shelf.specs.Answers.{After}
 use Rattle.shelf.specs.Delivery.{quiet}

@@ -3,7 +3,7 @@ use Prim.Native.Nat.{ℕ}
 use mathlib.Core.Path.{_∙_, ap, sym}
 use mathlib.Core.List.{List}
 use borrow.Author.Needs.{needs}
-use Rattle.section.specs.Headers.{headOutcome}
+use Rattle.section.specs.Answers.{headOutcome}
 use Rattle.shelf.specs.Inner.{readableIn}
 use Rattle.shelf.specs.Steps.{isResult}
 use Rattle.shelf.specs.Views.{judged}

@@ -1,7 +1,7 @@
 -- `released` meets its contract.
 use mathlib.Core.Path.{_∙_, sym}
 use borrow.Author.Needs.{needs}
-use Rattle.shelf_state.specs.Records.{release}
+use Rattle.shelf_state.specs.Searches.{release}
 use Rattle.shelf_state.proofs.inner.released.Statement.{statement}
 use Rattle.shelf_state.proofs.inner.released.Tie as tie
 

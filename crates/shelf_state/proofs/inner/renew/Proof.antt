@@ -4,7 +4,7 @@ use mathlib.Core.Path.{_≡_}
 use borrow.Author.Needs.{needs}
 use Rattle.logic.proofs.LoopLaws.{at-end}
 use Rattle.shelf_state.proofs.RecordLaws.{drop-none, drop-step}
-use Rattle.shelf_state.specs.Records.{dropBelow}
+use Rattle.shelf_state.specs.Searches.{dropBelow}
 use Rattle.shelf_state.proofs.inner.renew.Statement.{statement}
 use Rattle.shelf_state.proofs.inner.renew.Tie as tie
 

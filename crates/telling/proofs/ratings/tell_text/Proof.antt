@@ -22,7 +22,7 @@ returns c = told-refused _ _ _ _ _ (rw (c .before .before .answer .given .1)) (c
 
 returns-2 : tie.Need-returns-2
 returns-2 c = let k = c .before .before in
-    told-result _ _ _ _ (record { start = k .answer2 .given .0 .0 .start; size = k .answer2 .given .0 .0 .length }) _ (rw (k .answer2 .given .1)) refl (c .two .ensures)
+    told-result _ _ _ _ (k .answer2 .given .0 .0) _ (rw (k .answer2 .given .1)) refl (c .two .ensures)
 
 pub tell-text-spec : {M : Type 1} → statement M
 tell-text-spec =

@@ -1,7 +1,7 @@
 -- `tell_header` meets its contract.
 use borrow.Author.Needs.{needs}
 use mathlib.Core.Path.{refl, ap}
-use Rattle.section.specs.Headers.{headOutcome}
+use Rattle.section.specs.Answers.{headOutcome}
 use Rattle.telling.proofs.ToldLaws.{told-refused, told-result}
 use Rattle.telling.proofs.sections.tell_header.Statement.{statement}
 use Rattle.telling.proofs.sections.tell_header.Tie as tie
