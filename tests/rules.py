@@ -38,11 +38,12 @@ listed = {(word, file) for words, files in re.findall(r"^\| (`[^|]*) \| (`crates
 taken = set()
 for file in sorted(starred):
     text = file.read_text()
+    body = re.sub(r"^use .*", "", text, flags=re.M)
     for crate, module, names, alias in re.findall(r"^use Rattle·(\w+?)(?:·specs)?\.specs\.(?:specs\.)?([A-Z]\w*(?:\.[A-Z]\w*)?)(?:\.\{([^}]*)\}| as (\w+))$", text, re.M):
         used = Path("crates") / crate / "specs" / (module.replace(".", "/") + ".antt")
         if not used.is_file() or used in starred or "Laws" in used.parts:
             continue
-        words = [name.strip().split(" as ")[0] for name in names.split(",")] if names else re.findall(rf"\b{alias}\.(\w+)", text)
+        words = [name.strip().split(" as ")[0] for name in names.split(",")] if names else re.findall(rf"\b{alias}\.(\w+)", body)
         taken |= {(word, str(used)) for word in words}
 wrong += [f"{word} of {file}: the core takes it, and docs/RULES.md does not say so" for word, file in sorted(taken - listed)]
 for word in sorted({word for word, _ in listed} - {word for word, _ in taken}):

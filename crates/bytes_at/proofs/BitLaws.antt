@@ -6,7 +6,8 @@ use native.Mathlib.Nat.{pow-suc, mul-assoc}
 use native.Mathlib.Omega.{arith}
 use lib.Pow.{high, low, shr-shr}
 use lib.ListN.{length}
-use Rattle.bytes_at.specs.Fields.{byteAt, wordAt, longAt}
+use Rattle.bytes_at.specs.Fields.{byteAt, wordAt}
+use Rattle.bytes_at.specs.Inner.{longAt}
 use Rattle.bytes_at.proofs.FieldLaws.{past}
 use Rattle.bytes_at.specs.Bits.{bitAt, bitsAt, fieldAt}
 

@@ -9,6 +9,3 @@ byteAt s i = getD s i 0
 
 abbrev pub wordAt : List ℕ → ℕ → ℕ
 wordAt s i = byteAt s i * 256 + byteAt s (i + 1)
-
-abbrev pub longAt : List ℕ → ℕ → ℕ
-longAt s i = wordAt s i * 65536 + wordAt s (i + 2)

@@ -4,7 +4,8 @@ ghost use mathlib.Core.Path.{_≡_};
 ghost use mathlib.Core.List.{[], _∷_};
 ghost use Prim.Native.Nat.{_-_, _*_, _<_};
 ghost use Rattle.bytes_at.specs.Bits.{bitsAt};
-ghost use Rattle.bytes_at.specs.Fields.{byteAt, wordAt, longAt};
+ghost use Rattle.bytes_at.specs.Fields.{byteAt, wordAt};
+ghost use Rattle.bytes_at.specs.Inner.{longAt};
 ghost use Rattle.bytes_at.specs.Walks.{skipTo, fieldsTo, ends};
 
 // Where a walk stands, or the offset of the field that is to blame.

@@ -7,7 +7,7 @@ use Rattle.bytes_at.specs.declared.Walk.{Walk}
 use Rattle.bytes_at.specs.declared.Walk.the-variants.{To, Bad}
 use Rattle.bytes_at.specs.Walks.{fieldsTo, then}
 use Rattle.bytes_at.proofs.WalkLaws.{seq-bad, seq-to}
-use Rattle.format.specs.Values.{steps}
+use Rattle.format.specs.Heads.{steps}
 use Rattle.format.proofs.FieldLaws.{pad, merge, split}
 use Rattle.channel.specs.Format.{channelHead}
 

@@ -8,7 +8,8 @@ use Rattle.format.specs.Lawful.{Lies}
 use Rattle.format.specs.Repeats.{Bytes}
 use Rattle.format.specs.Laws.OfBytes.{lies-at, lies-split}
 use Rattle.format.specs.Laws.OfValues.{bytes-length}
-use Rattle.format.specs.Values.{number, bytesOf, valsAt, behind}
+use Rattle.format.specs.Values.{number, bytesOf, behind}
+use Rattle.format.specs.Heads.{valsAt}
 use Rattle.format.specs.Laws.OfNamed.{vals-there}
 use Rattle.format.specs.Told.{sized10}
 use Rattle.descriptor.specs.Descriptors.{descriptors, noTag}

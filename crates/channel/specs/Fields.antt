@@ -1,7 +1,8 @@
 -- SCOPE 2.2: the fields of a channel that begins at a. Each is a selection of what stands at the bits that the format gives it.
 use Prim.Native.Nat.{ℕ}
 use mathlib.Core.List.{List, [], _∷_, _++_}
-use Rattle.format.specs.Values.{valsAt, behind}
+use Rattle.format.specs.Values.{behind}
+use Rattle.format.specs.Heads.{valsAt}
 use Rattle.part.specs.declared.Part.{Part}
 use Rattle.descriptor.specs.Places.{listAt, listEnd}
 use Rattle.row.specs.Rows.{partRow}

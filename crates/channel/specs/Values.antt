@@ -1,14 +1,13 @@
 -- SCOPE 2.2: what is answered for a channel of the format, where its encoding lies at a.
 use Prim.Native.Nat.{ℕ, _+_}
-use mathlib.Core.Path.{_≡_}
 use mathlib.Core.List.{List, _++_}
 use lib.ListN.{length}
-use Rattle.format.specs.Values.{Ones, behind}
+use Rattle.format.specs.Values.{behind}
 use Rattle.part.specs.declared.Part.{Part}
 use Rattle.descriptor.specs.Descriptors.{descriptors, noTag}
 use Rattle.row.specs.Rows.{partRow}
 use Rattle.channel.specs.declared.channel.Channel.{Channel}
-use Rattle.channel.specs.Format.{channelHead, headOf, ChannelFields}
+use Rattle.channel.specs.Format.{channelHead, ChannelFields}
 use Rattle.channel.specs.Fields.{numbersRow}
 
 -- where its descriptors stand: after the head and a length of two bytes
@@ -22,7 +21,3 @@ channelFor a x = record { name = x .name; tuning = x .tuning; service = x .servi
 -- its row
 abbrev pub rowFor : ℕ → ChannelFields → List ℕ
 rowFor a x = numbersRow (channelFor a x) ++ partRow (descriptorsPlace a x)
-
--- its reserved bits are ones
-abbrev pub OnesChannel : ChannelFields → Type 0
-OnesChannel x = Ones channelHead (headOf x) × (x .r2 ≡ 63)

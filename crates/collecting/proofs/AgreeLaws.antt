@@ -10,7 +10,7 @@ use Rattle.lent_laws.proofs.StepLaws.{lent-step, refused-keeps}
 use Rattle.collecting.proofs.FirstHalf.{first-half}
 use Rattle.collecting.proofs.SecondHalf.{from-empty, second-half}
 use Rattle.collecting.proofs.PromisedLaws.{places-promised}
-use Rattle.collecting.specs.Collecting.{AgreeingCollect, Agrees, Allowed, Build, Complete, Exchange, Heard, LentHolds, NoneRefused, StartsEmpty, Stretch, Table, ToldBy, stateAfter, and-then, end, fetch, heard, lentBuild, none-left, ours, quotasClosed, quotasOpened, recorded, status, goes-on}
+use Rattle.collecting.specs.Collecting.{AgreeingCollect, Agrees, Allowed, Build, Complete, Exchange, Heard, LentHolds, NoneRefused, StartsEmpty, Stretch, WholeTable, ToldBy, stateAfter, and-then, end, fetch, history, lentBuild, none-left, ours, quotasClosed, quotasOpened, recorded, status, goes-on}
 
 module _ (B : Build) (g : Agrees B) where
   after-is : (x : B .Memory) (ts : List Turn) → B .means (stateAfter B x ts) ≡ stateAfter ours (B .means x) ts
@@ -32,12 +32,12 @@ module _ (B : Build) (g : Agrees B) where
 
   -- what is told of the shelf that the memory means is told of the memory
   told-after : (x : B .Memory) (k : Asked) (ts : List Turn) (hs : Option (List Heard))
-      → ToldBy ours (stateAfter ours (B .means x) ts) k (heard k hs (recorded ours (B .means x) ts)) → ToldBy B (stateAfter B x ts) k (heard k hs (recorded B x ts))
-  told-after x k ts hs t = told-is (stateAfter B x ts) k (heard k hs (recorded B x ts))
-      (subst (λ (y : State). ToldBy ours y k (heard k hs (recorded B x ts))) (sym (after-is x ts))
-      (subst (λ (es : List Exchange). ToldBy ours (stateAfter ours (B .means x) ts) k (heard k hs es)) (sym (recorded-is x ts)) t))
+      → ToldBy ours (stateAfter ours (B .means x) ts) k (history k hs (recorded ours (B .means x) ts)) → ToldBy B (stateAfter B x ts) k (history k hs (recorded B x ts))
+  told-after x k ts hs t = told-is (stateAfter B x ts) k (history k hs (recorded B x ts))
+      (subst (λ (y : State). ToldBy ours y k (history k hs (recorded B x ts))) (sym (after-is x ts))
+      (subst (λ (es : List Exchange). ToldBy ours (stateAfter ours (B .means x) ts) k (history k hs es)) (sym (recorded-is x ts)) t))
 
-  module _ {k : Asked} (table : Table k) where
+  module _ {k : Asked} (table : WholeTable k) where
     allowed-is : (x : B .Memory) (t : Turn) → Allowed B table x t → Allowed ours table (B .means x) t
     allowed-is x t a = record {
       stays-open = λ c e q. sym (ap accepted (g .answer-is x t)) ∙ a .stays-open c e q;

@@ -28,7 +28,7 @@ use Rattle.shelf_laws.proofs.OpenLaws.{opening-passed}
 use Rattle.shelf_laws.proofs.StepLaws.{step-law}
 use Rattle.shelf_laws.proofs.ViewLaws.{none-above, pid-small, same-some, viewed}
 use Rattle.collecting.proofs.TurnLaws.{count-says, own-next, says-bytes, says-delivered, says-status}
-use Rattle.collecting.specs.Collecting.{Allowed, Complete, FirstHalf, Made, NoneRefused, OneOf, Own, Stretch, Table, stateAfter, and-then, deliver, end, fetch, here, none-left, one-more, ours, goes-on, there}
+use Rattle.collecting.specs.Collecting.{Allowed, Complete, FirstHalf, Made, NoneRefused, OneOf, Own, Stretch, WholeTable, stateAfter, and-then, deliver, end, fetch, here, none-left, one-more, ours, goes-on, there}
 
 -- ---- an open watch's key is not opened again
 open-refused : (s : Shelf) (area : ℕ) (a : Asked) (q : ℕ) → watched s a ≡ true → isResult (opened s area a q .outcome) ≡ false
@@ -39,7 +39,7 @@ open-refused s area a q w = go (opened s area a q .outcome) refl
     go (result u) e = true-false (watched s a) w (opening-passed s area a q e .new)
 
 -- ---- a table of a key
-module _ (k : Asked) (table : Table k) where
+module _ (k : Asked) (table : WholeTable k) where
   abbrev head : (n : ℕ) → n ≤ table .last → Header
   head n l = table .sections n l .head
 

@@ -18,7 +18,8 @@ use Rattle.refusal.specs.Outcomes.{refused, result, after, orRefuse}
 use Rattle.section.specs.Walked.{bodyOf}
 use Rattle.section.specs.Headers.{checksumTest, headerBy, headerIn, lengthTests, numberTests, ofKind}
 use Rattle.section.specs.Sections.{bodyTest, sectionBy}
-use Rattle.shelf_state.specs.Records.{emptyShelf, holdsFor, isOf, sameKey}
+use Rattle.shelf_state.specs.Records.{holdsFor, isOf, sameKey}
+use Rattle.shelf_state.specs.Searches.{emptyShelf}
 use Rattle.shelf_state.specs.Rules.{inRange, keysDiffer, keysInRange, lastBelowQuota, lengthsFit, noneAboveQuota, noneTwice, obeys, placesOwned, quotaOf, quotasFit, sizesFit, sizesInRange, unheardEmpty, watchable}
 use Rattle.shelf_state.specs.declared.records.Asked.{Asked}
 use Rattle.shelf.specs.Calls.{made, opened, openedInRange, orRefuseWith}
@@ -28,7 +29,7 @@ use Rattle.shelf_laws.proofs.EmptyLaws.{empty-law}
 use Rattle.collecting.proofs.FirstHalf.{first-half}
 use Rattle.collecting.proofs.StretchLaws.{AllPlain, Harmless, all-plain, of-table, other-key, plain, stretch-of, too-many, unsound}
 use Rattle.collecting.proofs.KnownLaws.{Answers, Known, answers-end, answers-next, gives-bytes, goes, hearing, hears-it, refuses-14, refuses-19, refuses-before, refuses-for, tells-status}
-use Rattle.collecting.specs.Collecting.{Complete, Made, NoneRefused, Own, TableSection, Stretch, Table, stateAfter, deliver, here, no-more, one-more, ours, recorded, there}
+use Rattle.collecting.specs.Collecting.{Complete, Made, NoneRefused, Own, TableSection, Stretch, WholeTable, stateAfter, deliver, here, no-more, one-more, ours, recorded, there}
 use Rattle.collecting.specs.Samples.{answers, answersIn, damaged, eit, eitHeader, eitKey, emptyState, fresh, mine, opening, section, start, theirs, turns}
 use Rattle.eit.specs.Walked as E
 
@@ -80,7 +81,7 @@ their version last v l = eit-section 0x1D01 8 version 0 last v (omega arith) l
 abbrev long : TableSection mine 5 3 0 (eit 7 5 0 3)
 long = eit-section 0x1D00 7 5 0 3 (omega arith) (omega arith) (omega arith)
 
-abbrev pub table : Table mine
+abbrev pub table : WholeTable mine
 table = record { version = 4; last = 2; bytes = section; sections = λ m l. eit-section 0x1D00 7 4 m 2 (omega arith) l (omega arith) }
 
 -- ---- on any area: the two watches, and the old section

@@ -21,7 +21,7 @@ use Rattle.shelf_laws.specs.Laws.{Obeys, OneStep}
 use Rattle.shelf_laws.proofs.StepLaws.{step-law}
 use Rattle.shelf_laws.proofs.ViewLaws.{unheard-empty}
 use Rattle.collecting.proofs.TurnLaws.{count-says, empty-now, own-next, says-bytes, says-status}
-use Rattle.collecting.specs.Collecting.{CompleteOnlyThen, EachAccepted, FromEmpty, Heard, Own, SecondHalf, ToldBy, stateAfter, bytesTold, continues, heard, heardNext, heardWith, newest, newestOr22, nothingYet, occurs, one-more, ours, recorded, run, statusTold}
+use Rattle.collecting.specs.Collecting.{CompleteOnlyThen, EachAccepted, FromEmpty, Heard, Own, SecondHalf, ToldBy, stateAfter, bytesTold, continues, history, historyNext, heardWith, newest, newestOr22, nothingYet, occurs, one-more, ours, recorded, run, statusTold}
 
 -- ---- a view that the sections heard tell
 abbrev EditionIs : List Heard → Edition → Type 0
@@ -74,8 +74,8 @@ none-tells : (v : View) → v .edition .heard ≡ false → ((m : ℕ) → v .ke
 unfolding run newest
 none-tells v e f = record { edition-is = e; kept-is = f }
 
-next-told : (k : Asked) (c : Call) (y : Bool) (hs : Option (List Heard)) (v : Option View) → Told hs v → Told (heardNext k c y hs) (nextView k c y v)
-unfolding heardNext nextView
+next-told : (k : Asked) (c : Call) (y : Bool) (hs : Option (List Heard)) (v : Option View) → Told hs v → Told (historyNext k c y hs) (nextView k c y v)
+unfolding historyNext nextView
 next-told k (opens o) y hs v t =
     told-choice (y & sameKey k (o .key)) (some []) hs (some (freshView (o .quota))) v (none-tells (freshView (o .quota)) refl (λ m. refl)) t
 next-told k (closes c) y hs v t = told-choice (y & sameKey k (c .key)) none hs none v tt t
@@ -110,8 +110,8 @@ bytes-told (some ds) (some v) m t = ap bytesOr22 (t .kept-is m) ∙ bytes-as (ne
 
 -- ---- a stretch, from any state that is told
 told-after : (x : State) (k : Asked) (ts : List Turn) (hs : Option (List Heard)) → Obeys x → Own (length (x .area)) ts → Told hs (viewIn x k)
-    → ToldBy ours (stateAfter ours x ts) k (heard k hs (recorded ours x ts))
-unfolding stateAfter heard recorded
+    → ToldBy ours (stateAfter ours x ts) k (history k hs (recorded ours x ts))
+unfolding stateAfter history recorded
 told-after x k [] hs ok own t = record {
   says = says-status x k ok ∙ ap reported (status-told hs (viewIn x k) t);
   gives = λ m. says-bytes x k ok m ∙ ap gave (bytes-told hs (viewIn x k) m t);
@@ -119,8 +119,8 @@ told-after x k [] hs ok own t = record {
 told-after x k (u ∷ ts) hs ok (one-more lent own) t =
     let s : OneStep x u = step-law x u ok lent in
     let y : Bool = accepted (step x u .answer) in
-    told-after (step x u .next) k ts (heardNext k (u .call) y hs) (s .keeps) (own-next s own)
-    (subst (Told (heardNext k (u .call) y hs)) (sym (s .views k)) (next-told k (u .call) y hs (viewIn x k) t))
+    told-after (step x u .next) k ts (historyNext k (u .call) y hs) (s .keeps) (own-next s own)
+    (subst (Told (historyNext k (u .call) y hs)) (sym (s .views k)) (next-told k (u .call) y hs (viewIn x k) t))
 
 pub second-half : SecondHalf ours
 second-half x k ts ok silent own = told-after x k ts (nothingYet (viewIn x k)) ok own (start (viewIn x k) refl)
@@ -136,7 +136,7 @@ from-empty x k ts e own =
 
 -- ---- so a watch is called complete only when every section of its edition was accepted since that edition began
 pub complete-only : CompleteOnlyThen
-complete-only B h x k ts n ok silent own e = go (heard k (nothingYet (viewIn (B .means x) k)) (recorded B x ts)) (sym (h x k ts ok silent own .says) ∙ e)
+complete-only B h x k ts n ok silent own e = go (history k (nothingYet (viewIn (B .means x) k)) (recorded B x ts)) (sym (h x k ts ok silent own .says) ∙ e)
   where
     by : (c : Bool) (ds : List Heard) (N : ℕ) → all N (occurs ds) ≡ c → reported (result (pick c (complete N) (held (count N (occurs ds)) N))) ≡ reported (result (complete n))
         → (m : ℕ) → m < n → occurs ds m ≡ true

@@ -17,7 +17,7 @@ use Rattle.shelf_laws.proofs.AnswerLaws.{broken-law}
 use Rattle.shelf_laws.proofs.StepLaws.{other-breaks, step-law}
 use Rattle.collecting.proofs.FirstHalf.{turned}
 use Rattle.collecting.proofs.TurnLaws.{own-next, says-delivered}
-use Rattle.collecting.specs.Collecting.{Allowed, OneOf, Own, Stretch, Table, end, one-more, ours, goes-on}
+use Rattle.collecting.specs.Collecting.{Allowed, OneOf, Own, Stretch, WholeTable, end, one-more, ours, goes-on}
 
 -- ---- another memory, of another length
 module _ (x : State) (l : List ℕ) (ok : Obeys x) (lent : ownOr14 (length (x .area)) (other l) ≡ true) where
@@ -26,25 +26,25 @@ module _ (x : State) (l : List ℕ) (ok : Obeys x) (lent : ownOr14 (length (x .a
 
 -- ---- what a call of a stretch may be
 -- a delivery: of another key; of the table; refused before a watch is asked for; or of more sections than the quota
-pub data Harmless {k : Asked} (table : Table k) (quota : ℕ) (d : Delivery) : Type 0 where
+pub data Harmless {k : Asked} (table : WholeTable k) (quota : ℕ) (d : Delivery) : Type 0 where
   other-key : (keyIn (d .pid) (d .bytes) ≡ k → ⊥) → Harmless table quota d
   of-table : OneOf table (d .bytes) → Harmless table quota d
   unsound : (n : ℕ) → currentOn (d .pid) (d .bytes) ≡ refused n → Harmless table quota d
   too-many : (h : Header) → currentOn (d .pid) (d .bytes) ≡ result h → quota < h .last + 1 → Harmless table quota d
 
-abbrev pub Plain : {k : Asked} → Table k → ℕ → Call → Type 0
+abbrev pub Plain : {k : Asked} → WholeTable k → ℕ → Call → Type 0
 Plain {k} table quota (opens o) = Unit {0}
 Plain {k} table quota (closes c) = c .key ≡ k → ⊥
 Plain {k} table quota (asks q) = Unit {0}
 Plain {k} table quota (fetches f) = Unit {0}
 Plain {k} table quota (delivers d) = Harmless table quota d
 
-pub data AllPlain {k : Asked} (table : Table k) (quota : ℕ) : List Turn → Type 0 where
+pub data AllPlain {k : Asked} (table : WholeTable k) (quota : ℕ) : List Turn → Type 0 where
   all-plain : AllPlain table quota []
   plain : {t : Turn} {ts : List Turn} → Plain table quota (t .call) → AllPlain table quota ts → AllPlain table quota (t ∷ ts)
 
 -- ---- such calls are allowed
-module _ (k : Asked) (table : Table k) (x : State) (v : View) (ok : Obeys x) (is : viewIn x k ≡ some v) where
+module _ (k : Asked) (table : WholeTable k) (x : State) (v : View) (ok : Obeys x) (is : viewIn x k ≡ some v) where
   -- a delivery that its own area would not make accepted
   refuses : (d : Delivery) (u : Lent) (n : ℕ) → ownOr14 (length (x .area)) u ≡ true → keyIn (d .pid) (d .bytes) ≡ k
       → deliverySays (some v) (currentOn (d .pid) (d .bytes)) ≡ refused n → accepted (step x (record { call = delivers d; lent = u }) .answer) ≡ false
@@ -68,7 +68,7 @@ module _ (k : Asked) (table : Table k) (x : State) (v : View) (ok : Obeys x) (is
       one d q (too-many h e l) r = r 18 (rw (e, lt-leb (h .last + 1) (v .quota) l))
 
 -- ---- so a stretch of them is a stretch
-pub stretch-of : (k : Asked) (table : Table k) (x : State) (v : View) (ts : List Turn) → Obeys x → viewIn x k ≡ some v → Own (length (x .area)) ts
+pub stretch-of : (k : Asked) (table : WholeTable k) (x : State) (v : View) (ts : List Turn) → Obeys x → viewIn x k ≡ some v → Own (length (x .area)) ts
     → AllPlain table (v .quota) ts → Stretch ours table x ts
 stretch-of k table x v [] ok is o ps = end
 stretch-of k table x v (t ∷ ts) ok is (one-more lent later) (plain p ps) =

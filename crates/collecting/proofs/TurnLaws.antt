@@ -40,8 +40,8 @@ pub own-next : {x : State} {t : Turn} {ts : List Turn} → OneStep x t → Own (
 own-next {x} {t} {ts} s own = subst (λ (n : ℕ). Own n ts) (sym (s .size)) own
 
 -- ---- a shelf that is empty
-pub empty-now : (x : State) → StartsEmpty ours x → Empty x
-empty-now x e = subst (λ (s : Shelf). Empty (record { shelf = s; area = x .area })) (sym (e .shelf-is)) (empty-law (e .places) (e .records) (x .area) (e .made-so) (e .area-is))
+pub empty-now : (x : State) (e : StartsEmpty ours x) → Empty (e .places) (e .records) x
+empty-now x e = subst (λ (s : Shelf). Empty (e .places) (e .records) (record { shelf = s; area = x .area })) (sym (e .shelf-is)) (empty-law (e .places) (e .records) (x .area) (e .made-so) (e .area-is))
 
 -- ---- all are counted exactly where all have it
 all-counted : (n : ℕ) (p : ℕ → Bool) → all n p ≡ true → count n p ≡ n

@@ -18,7 +18,7 @@ use Rattle.shelf_laws.proofs.ViewLaws.{never-some}
 use Rattle.collecting.proofs.KnownLaws.{Known, hearing, hears-it, tells-status}
 use Rattle.collecting.proofs.SampleLaws.{eit-key, empty-known, fresh-known, freshViews, room, table}
 use Rattle.collecting.proofs.SecondHalf.{second-half}
-use Rattle.collecting.specs.Collecting.{Allowed, Build, Complete, Exchange, FirstHalf, Made, NoneRefused, Own, SecondHalf, Silent, Stretch, stateAfter, and-then, byValue, deliver, end, heard, here, no-more, nothingYet, one-more, ours, recorded, status, statusTold, goes-on, there}
+use Rattle.collecting.specs.Collecting.{Allowed, Build, Complete, Exchange, FirstHalf, Made, NoneRefused, Own, SecondHalf, Silent, Stretch, stateAfter, and-then, byValue, deliver, end, history, here, no-more, nothingYet, one-more, ours, recorded, status, statusTold, goes-on, there}
 use Rattle.collecting.specs.Samples.{eitHeader, emptyState, fresh, mine, opening, section, theirs}
 use Rattle.collecting.specs.Useless.{Calls, completeAtLast, constant, hasHeard, madeUp, refusesAll, retold, storesFirst, storesNothing, telling}
 
@@ -136,9 +136,9 @@ unfolding sameKey _&_ hears put sameEdition statusOf heldOrComplete ifEq sum
 two-of-three = tells-status (step one-on (sends 1) .next) known-2 mine .answer
 
 -- the first section alone is there at the end
-first-next : (f : Asked → Option View) (z : State) (m : ℕ) (heard : Bool) → Known room f z → hasHeard (f mine) ≡ heard
-    → storesFirst z (sends m) .next ≡ pick (not heard) (step z (sends m) .next) z
-first-next f z m heard i e = rw (eit-key 0x1D00 7 4 m 2, i .views mine, e)
+first-next : (f : Asked → Option View) (z : State) (m : ℕ) (history : Bool) → Known room f z → hasHeard (f mine) ≡ history
+    → storesFirst z (sends m) .next ≡ pick (not history) (step z (sends m) .next) z
+first-next f z m history i e = rw (eit-key 0x1D00 7 4 m 2, i .views mine, e)
 
 pub not-stores-first : FirstHalf (byValue storesFirst) → ⊥
 unfolding stateAfter sameKey _&_ hears
@@ -165,7 +165,7 @@ module _ (f : ℕ → ℕ → Status) (h : SecondHalf (byValue (telling f))) whe
       ap (retold f) (sym e)
       ∙ ap (λ (z : State). retold f (step z (status mine) .answer)) (sym same-end)
       ∙ h before mine ts (i .ok) silent lent-it .says
-      ∙ ap (λ (es : List Exchange). reported (statusTold (heard mine (nothingYet (viewIn before mine)) es))) same-record
+      ∙ ap (λ (es : List Exchange). reported (statusTold (history mine (nothingYet (viewIn before mine)) es))) same-record
       ∙ sym (second-half before mine ts (i .ok) silent lent-it .says)
       ∙ e
 

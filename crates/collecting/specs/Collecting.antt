@@ -1,6 +1,6 @@
 -- SCOPE 12.5, the third demand, and SCOPE 5.9: statements over any build and any stretch of calls. A build keeps a shelf and its area in
 -- some memory, and a call on that memory answers and leaves memory. A view is what a key's watch has collected (Views.antt of `shelf`).
--- All stretches stand in the order in which their calls are made.
+-- All stretches stand in the order in which their calls are made; what was heard of a key stands with the newest first.
 use Prim.Native.Nat.{ℕ, _+_, _*_, _≤_, _<_}
 use mathlib.Core.Path.{_≡_}
 use mathlib.Core.Bool.{Bool, true, false}
@@ -73,23 +73,23 @@ pub record TableSection (k : Asked) (version last number : ℕ) (b : List ℕ) :
   pub last-is : head .last ≡ last
   pub number-is : head .number ≡ number
 
-pub record Table (k : Asked) : Type 0 where
+pub record WholeTable (k : Asked) : Type 0 where
   pub version : ℕ
   pub last : ℕ
   pub bytes : ℕ → List ℕ
   pub sections : (m : ℕ) → m ≤ last → TableSection k version last m (bytes m)
 
-pub record OneOf {k : Asked} (table : Table k) (b : List ℕ) : Type 0 where
+pub record OneOf {k : Asked} (table : WholeTable k) (b : List ℕ) : Type 0 where
   pub number : ℕ
   pub upto : number ≤ table .last
   pub bytes-are : b ≡ table .bytes number
 
 -- each call of the stretch, as the build answers it, leaves this watch open, and accepts no other section of its key
-pub record Allowed (B : Build) {k : Asked} (table : Table k) (x : B .Memory) (t : Turn) : Type 0 where
+pub record Allowed (B : Build) {k : Asked} (table : WholeTable k) (x : B .Memory) (t : Turn) : Type 0 where
   pub stays-open : (c : Closing) → t .call ≡ closes c → c .key ≡ k → accepted (B .turn x t .answer) ≡ false
   pub no-other : (d : Delivery) → t .call ≡ delivers d → keyIn (d .pid) (d .bytes) ≡ k → accepted (B .turn x t .answer) ≡ true → OneOf table (d .bytes)
 
-pub data Stretch (B : Build) {k : Asked} (table : Table k) : B .Memory → List Turn → Type 0 where
+pub data Stretch (B : Build) {k : Asked} (table : WholeTable k) : B .Memory → List Turn → Type 0 where
   end : {x : B .Memory} → Stretch B table x []
   goes-on : {x : B .Memory} {t : Turn} {ts : List Turn} → Allowed B table x t → Stretch B table (B .turn x t .next) ts → Stretch B table x (t ∷ ts)
 
@@ -99,21 +99,21 @@ pub data Made (t : Turn) : List Turn → Type 0 where
   there : {u : Turn} {ts : List Turn} → Made t ts → Made t (u ∷ ts)
 
 -- no delivery of the table's sections on the key's PID is refused
-pub data NoneRefused (B : Build) {k : Asked} (table : Table k) : B .Memory → List Turn → Type 0 where
+pub data NoneRefused (B : Build) {k : Asked} (table : WholeTable k) : B .Memory → List Turn → Type 0 where
   none-left : {x : B .Memory} → NoneRefused B table x []
   and-then : {x : B .Memory} {t : Turn} {ts : List Turn}
       → ((m : ℕ) → m ≤ table .last → t ≡ deliver (k .pid) (table .bytes m) → B .turn x t .answer ≡ did (result tt))
       → NoneRefused B table (B .turn x t .next) ts → NoneRefused B table x (t ∷ ts)
 
 -- the watch ends complete, holding exactly those bytes
-pub record Complete (B : Build) {k : Asked} (table : Table k) (x : B .Memory) : Type 0 where
+pub record Complete (B : Build) {k : Asked} (table : WholeTable k) (x : B .Memory) : Type 0 where
   pub says : B .turn x (status k) .answer ≡ reported (result (complete (table .last + 1)))
   pub holds : (m : ℕ) → m ≤ table .last → B .turn x (fetch k m) .answer ≡ gave (result (table .bytes m))
   pub no-other : (m : ℕ) → table .last < m → B .turn x (fetch k m) .answer ≡ gave (refused 22)
 
 abbrev pub FirstHalf : Build → Type 0
 FirstHalf B =
-    (x : B .Memory) (k : Asked) (v : View) (table : Table k) (ts : List Turn)
+    (x : B .Memory) (k : Asked) (v : View) (table : WholeTable k) (ts : List Turn)
     → Obeys (B .means x)
     → viewIn (B .means x) k ≡ some v
     → table .last + 1 ≤ v .quota
@@ -131,7 +131,8 @@ unfoldable pub recorded : (B : Build) → B .Memory → List Turn → List Excha
 recorded B x [] = []
 recorded B x (t ∷ ts) = record { call = t .call; answer = B .turn x t .answer } ∷ recorded B (B .turn x t .next) ts
 
--- the sections that were accepted for a key since its watch was opened, or since the stretch began, the newest first; none where it is not watched
+-- the sections that were accepted for a key since its watch was opened, or since the stretch began, the newest first; none where it is not watched.
+-- Where version 1 had number 0 accepted, and then version 2 its numbers 0 and 1, it is (2, 1) ∷ (2, 0) ∷ (1, 0) ∷ [], whose run is the first two
 pub record Heard : Type 0 where
   pub head : Header
   pub bytes : List ℕ
@@ -141,16 +142,16 @@ heardWith none b o = none
 heardWith (some hs) b (refused n) = some hs
 heardWith (some hs) b (result h) = some (record { head = h; bytes = b } ∷ hs)
 
-unfoldable pub heardNext : Asked → Call → Bool → Option (List Heard) → Option (List Heard)
-heardNext k (opens o) y hs = pick (y & sameKey k (o .key)) (some []) hs
-heardNext k (closes c) y hs = pick (y & sameKey k (c .key)) none hs
-heardNext k (asks q) y hs = hs
-heardNext k (fetches f) y hs = hs
-heardNext k (delivers d) y hs = pick (y & sameKey k (keyIn (d .pid) (d .bytes))) (heardWith hs (d .bytes) (judged (d .bytes))) hs
+unfoldable pub historyNext : Asked → Call → Bool → Option (List Heard) → Option (List Heard)
+historyNext k (opens o) y hs = pick (y & sameKey k (o .key)) (some []) hs
+historyNext k (closes c) y hs = pick (y & sameKey k (c .key)) none hs
+historyNext k (asks q) y hs = hs
+historyNext k (fetches f) y hs = hs
+historyNext k (delivers d) y hs = pick (y & sameKey k (keyIn (d .pid) (d .bytes))) (heardWith hs (d .bytes) (judged (d .bytes))) hs
 
-unfoldable pub heard : Asked → Option (List Heard) → List Exchange → Option (List Heard)
-heard k hs [] = hs
-heard k hs (e ∷ es) = heard k (heardNext k (e .call) (accepted (e .answer)) hs) es
+unfoldable pub history : Asked → Option (List Heard) → List Exchange → Option (List Heard)
+history k hs [] = hs
+history k hs (e ∷ es) = history k (historyNext k (e .call) (accepted (e .answer)) hs) es
 
 -- before the first call: nothing
 abbrev pub nothingYet : Option View → Option (List Heard)
@@ -202,7 +203,7 @@ pub record ToldBy (B : Build) (x : B .Memory) (k : Asked) (hs : Option (List Hea
 abbrev pub SecondHalf : Build → Type 0
 SecondHalf B =
     (x : B .Memory) (k : Asked) (ts : List Turn) → Obeys (B .means x) → Silent (B .means x) → Own (length (B .means x .area)) ts
-    → ToldBy B (stateAfter B x ts) k (heard k (nothingYet (viewIn (B .means x) k)) (recorded B x ts))
+    → ToldBy B (stateAfter B x ts) k (history k (nothingYet (viewIn (B .means x) k)) (recorded B x ts))
 
 -- so a watch is called complete only where every section of its edition was accepted since that edition began
 abbrev pub EachAccepted : ℕ → Option (List Heard) → Type 0
@@ -213,7 +214,7 @@ abbrev pub CompleteOnlyThen : Type 1
 CompleteOnlyThen =
     (B : Build) → SecondHalf B → (x : B .Memory) (k : Asked) (ts : List Turn) (n : ℕ) → Obeys (B .means x) → Silent (B .means x) → Own (length (B .means x .area)) ts
     → B .turn (stateAfter B x ts) (status k) .answer ≡ reported (result (complete n))
-    → EachAccepted n (heard k (nothingYet (viewIn (B .means x) k)) (recorded B x ts))
+    → EachAccepted n (history k (nothingYet (viewIn (B .means x) k)) (recorded B x ts))
 
 -- ---- from memory that means an empty shelf
 pub record StartsEmpty (B : Build) (x : B .Memory) : Type 0 where
@@ -224,7 +225,7 @@ pub record StartsEmpty (B : Build) (x : B .Memory) : Type 0 where
   pub area-is : length (B .means x .area) ≡ places * 4096
 
 abbrev pub FromEmpty : Build → Type 0
-FromEmpty B = (x : B .Memory) (k : Asked) (ts : List Turn) → StartsEmpty B x → Own (length (B .means x .area)) ts → ToldBy B (stateAfter B x ts) k (heard k none (recorded B x ts))
+FromEmpty B = (x : B .Memory) (k : Asked) (ts : List Turn) → StartsEmpty B x → Own (length (B .means x .area)) ts → ToldBy B (stateAfter B x ts) k (history k none (recorded B x ts))
 
 -- ---- places promised: the quotas opened less the quotas closed, those that the record says they were opened with
 unfoldable pub quotasOpened : List Exchange → ℕ

@@ -7,7 +7,8 @@ use mathlib.Core.List.{List, [], _∷_}
 use native.Mathlib.Omega.{arith}
 use lib.ListN.{length}
 use lib.Dec.{eqb}
-use Rattle.format.specs.Formats.{One, Format, Filling, lastByte, lastButOne, both, filledBy, seq, exact, anyBytes, choice, list, Full, under}
+use Rattle.format.specs.Formats.{Format, Filling, lastByte, lastButOne, both, filledBy, seq, exact, anyBytes, choice, list, Full, under}
+use Rattle.format.specs.Repeats.{One}
 use Rattle.format.specs.Values.{bits, reserved}
 use Rattle.format.specs.Named.{named}
 use Rattle.format.specs.Heads.{Tells}

@@ -6,7 +6,8 @@ use Rattle.bytes_at.specs.declared.Walk.{Walk}
 use Rattle.bytes_at.specs.declared.Walk.the-variants.{Bad}
 use Rattle.bytes_at.specs.Walks.{ends}
 use Rattle.logic.specs.Choices.{ifLt}
-use Rattle.format.specs.Formats.{One, Format, lastWord, through, head, filled}
+use Rattle.format.specs.Formats.{Format, lastWord, through, head, filled}
+use Rattle.format.specs.Repeats.{One}
 use Rattle.descriptor.specs.Descriptors.{descriptors}
 
 -- a length in the low bits of 16, below m, and a descriptor list of that length: list12 and list10 walk as it does

@@ -4,7 +4,8 @@ use Prim.Native.Nat.{ℕ, _+_, _%_}
 use mathlib.Core.List.{List}
 use Rattle.bytes_at.specs.Fields.{wordAt}
 use Rattle.part.specs.declared.Part.{Part}
-use Rattle.format.specs.Formats.{One, Format}
+use Rattle.format.specs.Formats.{Format}
+use Rattle.format.specs.Repeats.{One}
 use Rattle.format.specs.Told.{sized12, sized10}
 use Rattle.descriptor.specs.Descriptors.{descriptors}
 

@@ -7,6 +7,7 @@ use lib.ListN.{length}
 use Rattle.format.specs.Repeats.{All}
 use Rattle.format.specs.Values.{Ones, behind}
 use Rattle.part.specs.declared.Part.{Part}
+use Rattle.part.specs.Parts.{endOf}
 use Rattle.strings.specs.Strings.{text, structure}
 use Rattle.descriptor.specs.Descriptors.{descriptors, contentAdvisory}
 use Rattle.row.specs.Rows.{partRow}
@@ -31,7 +32,7 @@ titlePlace a e = record { start = behind eventHead a + 1; length = length (text 
 -- where the descriptors stand: after the title and a length of two bytes
 abbrev pub descriptorsPlace : ℕ → EventFields → Part
 descriptorsPlace a e = record {
-  start = behind eventHead a + 1 + length (text .enc (e .title)) + 2;
+  start = endOf (titlePlace a e) + 2;
   length = length (descriptors contentAdvisory .enc (e .descs));
 }
 

@@ -1,7 +1,8 @@
 -- SCOPE 2.5: the fields of an ETT whose body stands from `at` to `end`.
 use Prim.Native.Nat.{ℕ, _-_}
 use mathlib.Core.List.{List}
-use Rattle.format.specs.Values.{valsAt, behind}
+use Rattle.format.specs.Values.{behind}
+use Rattle.format.specs.Heads.{valsAt}
 use Rattle.ett.specs.declared.table.Table.{Table}
 use Rattle.ett.specs.Format.{etmHead}
 

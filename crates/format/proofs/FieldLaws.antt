@@ -14,7 +14,7 @@ use Rattle.bytes_at.specs.declared.Walk.the-variants.{To, Bad}
 use Rattle.logic.specs.Choices.{pick}
 use Rattle.bytes_at.specs.Walks.{skipTo, bitsTo, fieldsTo, then}
 use Rattle.bytes_at.proofs.WalkLaws.{skip-fits, skip-past, bits-on, bits-past, bits-done}
-use Rattle.format.specs.Repeats.{total}
+use Rattle.format.specs.Lawful.{total}
 use Rattle.format.specs.Laws.OfBytes.{bits-begin, fields-took}
 
 -- fields of no bits at a head's end change nothing

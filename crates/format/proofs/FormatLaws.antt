@@ -10,7 +10,8 @@ use Rattle.bytes_at.specs.declared.Walk.{Walk}
 use Rattle.bytes_at.specs.declared.Walk.the-variants.{To, Bad}
 use Rattle.bytes_at.specs.Walks.{then}
 use Rattle.bytes_at.proofs.WalkLaws.{then-inv}
-use Rattle.format.specs.Repeats.{Bytes, total}
+use Rattle.format.specs.Repeats.{Bytes}
+use Rattle.format.specs.Lawful.{total}
 use Rattle.format.specs.Laws.OfBytes.{part-length}
 use Rattle.format.specs.Formats.{Format, Filling, Reader, Full, head, walks}
 use Rattle.format.proofs.FieldLaws.{fields-end}

@@ -4,3 +4,4 @@ pub mod FormatLaws
 pub mod RelocationLaws
 pub mod SizedLaws
 pub mod ListedLaws
+pub mod LanguageLaws

@@ -11,8 +11,7 @@ use Rattle.bytes_at.specs.declared.Walk.{Walk}
 use Rattle.bytes_at.specs.declared.Walk.the-variants.{To, Bad}
 use Rattle.bytes_at.specs.Walks.{bitsTo, fieldsTo, then, many, ends}
 use Rattle.bytes_at.proofs.WalkLaws.{seq-bad, seq-to, bits-on, bits-past}
-use Rattle.format.specs.Lawful.{unto}
-use Rattle.format.specs.Repeats.{total}
+use Rattle.format.specs.Lawful.{unto, total}
 use Rattle.format.specs.Laws.OfBytes.{fields-fit}
 
 -- ---- runs of n entries of m fields of one byte each: nothing in them is read, so they are one step; the byte that is missing

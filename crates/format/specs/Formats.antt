@@ -15,17 +15,14 @@ use Rattle.bytes_at.specs.declared.Walk.the-variants.{To, Bad}
 use Rattle.logic.specs.Choices.{pick}
 use Rattle.bytes_at.specs.Fields.{byteAt, wordAt}
 use Rattle.bytes_at.specs.Walks.{skipTo, fieldsTo, then, many, ends}
-use Rattle.format.specs.Lawful.{Walker, Lies, Lawful, Fills, unto}
-use Rattle.format.specs.Repeats.{Bytes, total, All, encs, OkOpt, encOpt, OkSum, encSum}
+use Rattle.format.specs.Lawful.{Walker, Lies, Lawful, Fills, unto, total}
+use Rattle.format.specs.Repeats.{Bytes, All, encs, OkOpt, encOpt, OkSum, encSum, One}
 use Rattle.format.specs.Laws.OfBytes.{fields-law, raw-law, lies-byte}
 use Rattle.format.specs.Laws.OfHeads.{head-law, seq-law, via-law}
 use Rattle.format.specs.Laws.OfContainers.{filled-law, exact-law, before-law, under-law, any-law, opt-law, choice-law}
 use Rattle.format.specs.Laws.OfRepeats.{times-law, some-law, list-law}
 
 -- ---- what a format is
--- nothing is told
-abbrev pub One : Type 0
-One = record {}
 
 -- a format that tells by itself where it ends; C is what a head before it tells of it (a count, a length, a tag)
 pub record Format (C : Type 0) : Type 1 where

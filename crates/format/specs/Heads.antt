@@ -1,17 +1,29 @@
--- A head of fields whose last is a length or a count t of what follows: its bytes; what a reader from behind it reads, by its bits; and when fields with what
+-- What formats of fields are made of: how a walk steps past fields, and their values at their bits; what a reader reads from behind a head; and when fields with what
 -- follows them are well formed.
-use Prim.Native.Nat.{ℕ, _+_, _*_, _^_, _<_}
+use Prim.Native.Nat.{ℕ, _+_, _^_, _<_, zero, suc}
 use mathlib.Core.Path.{_≡_}
-use mathlib.Core.List.{List}
+use mathlib.Core.List.{List, [], _∷_}
 use lib.ListN.{length}
-use Rattle.bytes_at.specs.Bits.{bitsAt}
+use Rattle.bytes_at.specs.Bits.{bitsAt, fieldAt}
 use Rattle.format.specs.Repeats.{Bytes}
 use Rattle.format.specs.Formats.{Format, Reader}
-use Rattle.format.specs.Values.{Field, width, Vals, Fit, number, bytesOf, valsAt}
+use Rattle.format.specs.Values.{Field, bits, reserved, piece, bitsOf, width, Vals, Fit}
 
--- fields, and a number t of n bits after them, k bytes in all
-abbrev pub headBytes : (fs : List Field) (n k : ℕ) → Vals fs → ℕ → List ℕ
-headBytes fs n k v t = bytesOf k (number fs v * 2 ^ n + t)
+-- the steps of a walk past fields, after n bits that lead: reserved bits and pieces count to the field that they lead
+abbrev pub stepsAfter : List Field → ℕ → List ℕ
+stepsAfter [] zero = []
+stepsAfter [] (suc n) = suc n ∷ []
+stepsAfter (bits m ∷ fs) n = (n + m) ∷ stepsAfter fs 0
+stepsAfter (reserved m ∷ fs) n = stepsAfter fs (n + m)
+stepsAfter (piece m ∷ fs) n = stepsAfter fs (n + m)
+
+abbrev pub steps : List Field → List ℕ
+steps fs = stepsAfter fs 0
+
+-- the values that stand from o bits after the byte `at` on
+abbrev pub valsAt : (fs : List Field) → List ℕ → ℕ → ℕ → Vals fs
+valsAt [] s at o = record {}
+valsAt (f ∷ fs) s at o = (fieldAt s at o (bitsOf f), valsAt fs s at (o + bitsOf f))
 
 -- what is read behind a head is what its fields and its last n bits say
 abbrev pub Tells : {C : Type 0} (fs : List Field) (n k : ℕ) → Reader k C → (Vals fs → ℕ → C) → Type 0

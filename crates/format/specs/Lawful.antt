@@ -1,7 +1,7 @@
 -- What a format's `walk` and `law` are made of: what it is for a walk to accept exactly the encodings of values.
 use Prim.Native.Nat.{ℕ, zero, suc, _+_, _≤_}
 use mathlib.Core.Path.{_≡_}
-use mathlib.Core.List.{List, _++_}
+use mathlib.Core.List.{List, _++_, [], _∷_}
 use lib.ListN.{length, take, drop}
 use lib.Dec.{ltb}
 use Rattle.bytes_at.specs.declared.Walk.{Walk}
@@ -9,6 +9,11 @@ use Rattle.bytes_at.specs.declared.Walk.the-variants.{To}
 use Rattle.logic.specs.Choices.{pick}
 use Rattle.bytes_at.specs.Walks.{then, ends}
 use Rattle.format.specs.Repeats.{Bytes}
+
+-- the bits of fields of these widths
+abbrev pub total : List ℕ → ℕ
+total [] = 0
+total (n ∷ ns) = n + total ns
 
 -- a walk through a section: the bytes, the container's end, and the place where it starts
 abbrev pub Walker : Type 0

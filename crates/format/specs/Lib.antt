@@ -7,4 +7,5 @@ pub mod Values
 pub mod Named
 pub mod Heads
 pub mod Told
+pub mod Language
 pub mod Listed

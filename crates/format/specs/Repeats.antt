@@ -1,5 +1,5 @@
--- The values and bytes of parts that stand several times, may be missing, or are of two kinds.
-use Prim.Native.Nat.{ℕ, _+_, _<_}
+-- The values and bytes of parts that stand several times, may be missing, or are of two kinds; and numbers that are bytes.
+use Prim.Native.Nat.{ℕ, _<_}
 use mathlib.Core.Path.{_≡_}
 use mathlib.Core.List.{List, [], _∷_, _++_}
 use mathlib.Core.Logic.{_⊎_, inl, inr}
@@ -7,14 +7,13 @@ use mathlib.Core.Option.{Option, none, some}
 use mathlib.Core.Bool.{Bool, true, false}
 use Rattle.bytes_at.specs.Fields.{byteAt}
 
+-- nothing: of which all is said
+abbrev pub One : Type 0
+One = record {}
+
 -- the numbers of s are bytes
 abbrev pub Bytes : List ℕ → Type 0
 Bytes s = (i : ℕ) → byteAt s i < 256
-
--- the bits of fields of these widths
-abbrev pub total : List ℕ → ℕ
-total [] = 0
-total (n ∷ ns) = n + total ns
 
 -- each of them is well formed
 abbrev pub All : {X : Type 0} → (X → Type 0) → List X → Type 0

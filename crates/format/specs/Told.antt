@@ -7,12 +7,12 @@ use mathlib.Core.Path.{_≡_, refl, sym, ap}
 use mathlib.Core.List.{List, [], _∷_, _++_}
 use native.Mathlib.Omega.{arith}
 use lib.ListN.{length}
-use Rattle.format.specs.Repeats.{Bytes}
-use Rattle.format.specs.Formats.{One, Format, Filling, Reader, Recast, lastByte, lastWord, through, head, raw, filled, times, oneOrMore, via}
+use Rattle.format.specs.Repeats.{Bytes, One}
+use Rattle.format.specs.Formats.{Format, Filling, Reader, Recast, lastByte, lastWord, through, head, raw, filled, times, oneOrMore, via}
 use Rattle.bytes_at.proofs.BitLaws.{word-bits}
-use Rattle.format.specs.Values.{Field, bits, reserved, width, steps, Vals, number, valsAt}
+use Rattle.format.specs.Values.{Field, bits, reserved, width, Vals, number, headBytes}
+use Rattle.format.specs.Heads.{steps, valsAt, Tells, OkTold}
 use Rattle.format.specs.Laws.OfValues.{bytes-length, bytes-bytes}
-use Rattle.format.specs.Heads.{headBytes, Tells, OkTold}
 use Rattle.format.specs.Laws.OfTold.{steps-whole, head-below, told-good, told-onto, told-once, last-tells, low16-tells, low8-tells}
 
 -- ---- the head and what it tells of

@@ -2,8 +2,7 @@
 use Prim.Native.Nat.{ℕ, zero, suc, _+_, _-_, _*_, _/_, _%_, _^_, _<_}
 use mathlib.Core.Path.{_≡_}
 use mathlib.Core.List.{List, [], _∷_}
-use Rattle.format.specs.Formats.{One}
-use Rattle.bytes_at.specs.Bits.{fieldAt}
+use Rattle.format.specs.Repeats.{One}
 
 -- a field of so many bits: one that has a meaning, one that is reserved, or a first piece of a longer one
 pub data Field : Type 0 where
@@ -19,17 +18,6 @@ bitsOf (piece n) = n
 abbrev pub width : List Field → ℕ
 width [] = 0
 width (f ∷ fs) = bitsOf f + width fs
-
--- the steps of a walk past them, after n bits that lead: reserved bits and pieces count to the field that they lead
-abbrev pub stepsAfter : List Field → ℕ → List ℕ
-stepsAfter [] zero = []
-stepsAfter [] (suc n) = suc n ∷ []
-stepsAfter (bits m ∷ fs) n = (n + m) ∷ stepsAfter fs 0
-stepsAfter (reserved m ∷ fs) n = stepsAfter fs (n + m)
-stepsAfter (piece m ∷ fs) n = stepsAfter fs (n + m)
-
-abbrev pub steps : List Field → List ℕ
-steps fs = stepsAfter fs 0
 
 -- a number for each
 abbrev pub Vals : List Field → Type 0
@@ -58,10 +46,9 @@ unfoldable pub bytesOf : ℕ → ℕ → List ℕ
 bytesOf zero n = []
 bytesOf (suc k) n = n / 2 ^ (8 * k) ∷ bytesOf k (n % 2 ^ (8 * k))
 
--- the values that stand from o bits after the byte `at` on
-abbrev pub valsAt : (fs : List Field) → List ℕ → ℕ → ℕ → Vals fs
-valsAt [] s at o = record {}
-valsAt (f ∷ fs) s at o = (fieldAt s at o (bitsOf f), valsAt fs s at (o + bitsOf f))
+-- fields, and a number t of n bits after them, k bytes in all
+abbrev pub headBytes : (fs : List Field) (n k : ℕ) → Vals fs → ℕ → List ℕ
+headBytes fs n k v t = bytesOf k (number fs v * 2 ^ n + t)
 
 -- where what follows fields of whole bytes begins
 abbrev pub behind : List Field → ℕ → ℕ

@@ -24,8 +24,8 @@ use Rattle.refusal.specs.declared.Refusal.the-variants.{TooShort, OtherTable, I
 use Rattle.section.specs.Headers.{checksumTest, headerBy, lengthTests, numberTests, ofKind}
 use Rattle.section.specs.Sections.{bodyTest, bodyWalk, sectionBy}
 use Rattle.section.specs.declared.header.Header.{Header}
-use Rattle.shelf_state.specs.Records.{isOf, watchIn}
-use Rattle.shelf_state.specs.Searches.{findWatch}
+use Rattle.shelf_state.specs.Records.{isOf}
+use Rattle.shelf_state.specs.Searches.{watchIn, findWatch}
 use Rattle.shelf_state.specs.declared.records.Asked.{Asked}
 use Rattle.shelf_state.specs.declared.records.Shelf.{Shelf}
 use Rattle.shelf_state.specs.declared.records.Watch.{Watch}

@@ -10,7 +10,8 @@ use lib.ListN.{length, length-replicate, replicate}
 use lib.Seq.{ext-getD}
 use Rattle.logic.proofs.LoopLaws.{both}
 use Rattle.shelf_state.proofs.RecordLaws.{replicate-at}
-use Rattle.shelf_state.specs.Records.{blankPlace, blankWatch, emptyShelf, placeAt, watchAt}
+use Rattle.shelf_state.specs.Records.{blankPlace, blankWatch, placeAt, watchAt}
+use Rattle.shelf_state.specs.Searches.{emptyShelf}
 use Rattle.lent_memory.specs.Meaning.{LentState, blank, clamp, isOn, lent, meaning, placeMeant, rowCount, watchMeant}
 use Rattle.lent_laws.proofs.MeaningLaws.{lent-count, lent-places, lent-records, lent-watches, past-lent, place-lent, rowsRead, watch-lent}
 use Rattle.lent_laws.specs.Laws.{ZeroEmpty}

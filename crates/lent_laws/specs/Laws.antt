@@ -7,7 +7,7 @@ use lib.ListN.{replicate}
 use Rattle.logic.specs.Choices.{pick}
 use Rattle.part.specs.declared.Part.{Part}
 use Rattle.refusal.specs.Outcomes.{Outcome, refused, result}
-use Rattle.shelf_state.specs.Records.{emptyShelf}
+use Rattle.shelf_state.specs.Searches.{emptyShelf}
 use Rattle.shelf.specs.Views.{Status, complete, held, unheard, Call, asks, closes, delivers, fetches, opens}
 use Rattle.shelf.specs.Steps.{Answer, State, Turn, areaThen, did, fetchedBytes, gave, lentTo, step, reported}
 use Rattle.lent.specs.Calls.{Left, CallIn, called, lentCall}

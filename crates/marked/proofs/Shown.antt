@@ -30,8 +30,8 @@ use Rattle.section_text.specs.Fields.{titleIn, fieldOf}
 use Rattle.section_text.specs.Texts.{textUnits}
 use Rattle.logic.specs.Loops.{_&_, _⇒_, all, any, sum, first}
 use Rattle.logic.specs.Inner.{each}
-use Rattle.shelf_state.specs.Records.{sameKey, isOf, holdsFor, holds, emptyShelf}
-use Rattle.shelf_state.specs.Searches.{release}
+use Rattle.shelf_state.specs.Records.{sameKey, isOf, holdsFor, holds}
+use Rattle.shelf_state.specs.Searches.{emptyShelf, release}
 use Rattle.shelf_state.specs.Rules.{quotaOf, watchable, inRange, keysDiffer, quotasFit, placesOwned, noneTwice, noneAboveQuota, lastBelowQuota, unheardEmpty, lengthsFit, keysInRange, sizesInRange, sizesFit, obeys}
 use Rattle.shelf.specs.Calls.{orRefuseWith, made, openedInRange, opened, closed, fetchedFrom, fetched}
 use Rattle.shelf.specs.Delivery.{ownerIn, forOwner, edited, placeAmong, receivedAt, received, byJudge, arriving, delivering, delivered, areaAfter}

@@ -3,7 +3,8 @@
 use Prim.Native.Nat.{ℕ, _+_}
 use mathlib.Core.List.{List, [], _∷_, _++_}
 use Rattle.bytes_at.specs.Fields.{wordAt}
-use Rattle.format.specs.Values.{valsAt, behind}
+use Rattle.format.specs.Values.{behind}
+use Rattle.format.specs.Heads.{valsAt}
 use Rattle.part.specs.declared.Part.{Part}
 use Rattle.descriptor.specs.Places.{listAt, listEnd}
 use Rattle.row.specs.Rows.{partRow}

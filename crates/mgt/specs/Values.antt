@@ -1,16 +1,15 @@
 -- SCOPE 2.1: what is answered for a value of the MGT's format, by the record alone, where its encoding lies at a place.
 use Prim.Native.Nat.{ℕ, _+_}
-use mathlib.Core.Path.{_≡_}
 use mathlib.Core.List.{List, [], _∷_, _++_}
 use lib.ListN.{length}
-use Rattle.format.specs.Repeats.{All, encs}
-use Rattle.format.specs.Values.{Ones, behind}
+use Rattle.format.specs.Repeats.{encs}
+use Rattle.format.specs.Values.{behind}
 use Rattle.part.specs.declared.Part.{Part}
 use Rattle.descriptor.specs.Descriptors.{descriptors, noTag}
 use Rattle.row.specs.Rows.{partRow}
 use Rattle.mgt.specs.declared.defined.Defined.{Defined}
 use Rattle.mgt.specs.declared.table.Table.{Table}
-use Rattle.mgt.specs.Format.{definedHead, headOf, DefinedFields, definedFormat, MgtFields}
+use Rattle.mgt.specs.Format.{definedHead, DefinedFields, definedFormat, MgtFields}
 
 -- ---- a defined table that begins at a
 -- where its descriptors stand: after the head and a length of two bytes
@@ -31,10 +30,6 @@ definedFor a x = record {
 abbrev pub rowFor : ℕ → DefinedFields → List ℕ
 rowFor a x = (x .head .type ∷ x .head .pid ∷ x .head .version ∷ x .head .bytes ∷ []) ++ partRow (descriptorsPlace a x)
 
--- its reserved bits are ones
-abbrev pub OnesDefined : DefinedFields → Type 0
-OnesDefined x = Ones definedHead (headOf (x .head)) × (x .r ≡ 15)
-
 -- ---- the table, whose body begins at `at`
 -- where all that it defines are passed
 abbrev pub tablesEnd : ℕ → MgtFields → ℕ
@@ -46,7 +41,3 @@ fieldsFor at b = record {
   «tables_defined» = length (b .tables);
   descriptors = record { start = tablesEnd at b + 2; length = length (descriptors noTag .enc (b .descs)) };
 }
-
--- all reserved bits are ones
-abbrev pub OnesMgt : MgtFields → Type 0
-OnesMgt b = All OnesDefined (b .tables) × (b .r ≡ 15)

@@ -11,9 +11,8 @@ use Rattle.format.specs.Repeats.{Bytes, encs}
 use Rattle.format.specs.Formats.{lastByte, lastButOne, both, through, filledBy, times}
 use Rattle.format.specs.Laws.OfBytes.{lies-at, lies-split}
 use Rattle.format.specs.Laws.OfValues.{bytes-length}
-use Rattle.format.specs.Values.{bits, reserved}
+use Rattle.format.specs.Values.{bits, reserved, headBytes}
 use Rattle.format.specs.Laws.OfNamed.{vals-there}
-use Rattle.format.specs.Heads.{headBytes}
 use Rattle.format.specs.Laws.OfTold.{told-there, last-tells, low8-tells}
 use Rattle.format.proofs.SizedLaws.{sized8-there}
 use Rattle.strings.specs.Strings.{text, sizedText}

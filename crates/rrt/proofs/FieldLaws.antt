@@ -6,7 +6,7 @@ use native.Mathlib.Omega.{arith}
 use Rattle.bytes_at.specs.Bits.{bitsAt}
 use Rattle.bytes_at.specs.Fields.{byteAt}
 use Rattle.bytes_at.proofs.BitLaws.{mid-at}
-use Rattle.format.specs.Values.{valsAt}
+use Rattle.format.specs.Heads.{valsAt}
 use Rattle.part.specs.declared.Part.{Part}
 use Rattle.strings.specs.Places.{textAt, textEnd}
 use Rattle.rrt.specs.Format.{scaleHead}

@@ -9,7 +9,8 @@ use Rattle.format.specs.Repeats.{Bytes, encs}
 use Rattle.format.specs.Laws.OfBytes.{lies-at, lies-split}
 use Rattle.format.specs.Laws.OfValues.{bytes-length}
 use Rattle.format.specs.Formats.{walksAll}
-use Rattle.format.specs.Values.{Vals, number, bytesOf, valsAt}
+use Rattle.format.specs.Values.{Vals, number, bytesOf}
+use Rattle.format.specs.Heads.{valsAt}
 use Rattle.format.specs.Told.{sized8, sized10, fewNotNone, notNone}
 use Rattle.format.proofs.SizedLaws.{fewNotNone-there, notNone-there}
 use Rattle.format.proofs.ListedLaws.{Stand}

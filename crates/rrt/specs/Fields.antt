@@ -2,7 +2,7 @@
 use Prim.Native.Nat.{ℕ, zero, suc, _+_, _%_}
 use mathlib.Core.List.{List, [], _∷_, _++_}
 use Rattle.bytes_at.specs.Fields.{byteAt}
-use Rattle.format.specs.Values.{valsAt}
+use Rattle.format.specs.Heads.{valsAt}
 use Rattle.strings.specs.Places.{textAt, textEnd}
 use Rattle.descriptor.specs.Places.{listAt}
 use Rattle.row.specs.Rows.{partRow}

@@ -1,9 +1,8 @@
 -- SCOPE 2.3: what is answered for a value of the RRT's format, by the record alone, where its encoding lies at a place.
 use Prim.Native.Nat.{ℕ, _+_, _%_}
-use mathlib.Core.Path.{_≡_}
 use mathlib.Core.List.{List, [], _∷_, _++_}
 use lib.ListN.{length}
-use Rattle.format.specs.Repeats.{All, encs}
+use Rattle.format.specs.Repeats.{encs}
 use Rattle.part.specs.declared.Part.{Part}
 use Rattle.part.specs.Parts.{endOf}
 use Rattle.strings.specs.Strings.{text}
@@ -38,10 +37,6 @@ rowFor d x = partRow (partFor d (x .name)) ++ (x .scale ∷ length (x .values) �
 abbrev pub firstValueFor : ℕ → DimensionFields → ℕ
 firstValueFor d x = endOf (partFor d (x .name)) + 1
 
--- its reserved bits are ones
-abbrev pub OnesDimension : DimensionFields → Type 0
-OnesDimension x = x .r ≡ 7
-
 -- ---- the table, whose body begins at `at`
 -- where its first dimension begins: behind the region name and the count
 abbrev pub firstFor : ℕ → RrtFields → ℕ
@@ -60,7 +55,3 @@ fieldsFor extension at b = record {
   dimensions = length (b .dimensions);
   descriptors = record { start = dimensionsEnd (firstFor at b) b + 2; length = length (descriptors noTag .enc (b .descs)) };
 }
-
--- all reserved bits are ones
-abbrev pub OnesRrt : RrtFields → Type 0
-OnesRrt b = All OnesDimension (b .dimensions) × (b .r ≡ 63)

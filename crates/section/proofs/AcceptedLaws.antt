@@ -15,7 +15,8 @@ use Rattle.kind.specs.Kinds.{limitsOf, tableIdOf, onlyOf}
 use Rattle.format.specs.Repeats.{Bytes}
 use Rattle.format.specs.Laws.OfBytes.{part-length}
 use Rattle.format.specs.Laws.OfValues.{vals-fit, vals-number, bytes-part}
-use Rattle.format.specs.Values.{number, bytesOf, valsAt}
+use Rattle.format.specs.Values.{number, bytesOf}
+use Rattle.format.specs.Heads.{valsAt}
 use Rattle.format.proofs.FormatLaws.{between, accepted-all}
 use Rattle.section.specs.declared.header.Header.{Header}
 use Rattle.section.specs.Bodies.{bodyFormat}

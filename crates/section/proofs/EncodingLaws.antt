@@ -17,7 +17,8 @@ use Rattle.format.specs.Lawful.{Lies}
 use Rattle.format.specs.Repeats.{Bytes}
 use Rattle.format.specs.Laws.OfBytes.{bytes-append, same-front}
 use Rattle.format.specs.Laws.OfValues.{number-lt, bytes-bytes, bytes-length}
-use Rattle.format.specs.Values.{Vals, Fit, number, bytesOf, valsAt}
+use Rattle.format.specs.Values.{Vals, Fit, number, bytesOf}
+use Rattle.format.specs.Heads.{valsAt}
 use Rattle.format.specs.Laws.OfNamed.{vals-there}
 use Rattle.section.specs.declared.header.Header.{Header}
 use Rattle.section.specs.Bodies.{bodyFormat}

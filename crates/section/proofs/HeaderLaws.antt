@@ -5,7 +5,8 @@ use mathlib.Core.List.{List}
 use Rattle.bytes_at.specs.Fields.{byteAt}
 use Rattle.bytes_at.proofs.BitLaws.{byte-bits, word-bits, all-at, high-at, low-at, mid-at}
 use Rattle.format.specs.Repeats.{Bytes}
-use Rattle.format.specs.Values.{Vals, valsAt}
+use Rattle.format.specs.Values.{Vals}
+use Rattle.format.specs.Heads.{valsAt}
 use Rattle.section.specs.Headers.{tableId, syntaxIndicator, privateIndicator, sectionLength, tableIdExtension, versionNumber, currentNextIndicator, sectionNumber, lastSectionNumber}
 use Rattle.section.specs.Encoding.{headerHead}
 

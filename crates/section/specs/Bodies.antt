@@ -1,7 +1,8 @@
 -- SCOPE 2: the body of a section, by its kind. A body fills what stands between the header and the checksum.
 use Rattle.kind.specs.declared.Kind.{Kind}
 use Rattle.kind.specs.declared.Kind.the-variants.{Mgt, Tvct, Rrt, Eit, Ett}
-use Rattle.format.specs.Formats.{One, Filling}
+use Rattle.format.specs.Formats.{Filling}
+use Rattle.format.specs.Repeats.{One}
 use Rattle.mgt.specs.Format.{mgtFormat}
 use Rattle.tvct.specs.Format.{tvctFormat}
 use Rattle.rrt.specs.Format.{rrtFormat}

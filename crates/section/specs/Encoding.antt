@@ -5,14 +5,8 @@ use mathlib.Core.List.{List, [], _∷_, _++_}
 use lib.ListN.{length}
 use Rattle.checksum.specs.Register.{sealed}
 use Rattle.kind.specs.declared.Kind.{Kind}
-use Rattle.kind.specs.declared.Kind.the-variants.{Mgt, Tvct, Rrt, Eit, Ett}
 use Rattle.kind.specs.Kinds.{tableIdOf, limitsOf}
-use Rattle.format.specs.Formats.{One}
 use Rattle.format.specs.Values.{Field, bits, reserved, Vals, number, bytesOf}
-use Rattle.mgt.specs.Values.{OnesMgt}
-use Rattle.tvct.specs.Values.{OnesTvct}
-use Rattle.rrt.specs.Values.{OnesRrt}
-use Rattle.eit.specs.Values.{OnesEit}
 use Rattle.section.specs.declared.header.Header.{Header}
 use Rattle.section.specs.Bodies.{bodyFormat}
 
@@ -86,13 +80,6 @@ headerOf {k} y = record {
   last = y .header .last;
 }
 
--- its reserved bits are ones: those of the header, and of the body outside texts and descriptor lists
-abbrev pub OnesBody : (k : Kind) → bodyFormat k .Val → Type 0
-OnesBody Mgt b = OnesMgt b
-OnesBody Tvct b = OnesTvct b
-OnesBody Rrt b = OnesRrt b
-OnesBody Eit b = OnesEit b
-OnesBody Ett b = One
-
-abbrev pub AllOnes : (k : Kind) → Section k → Type 0
-AllOnes k y = ((y .header .r1 ≡ 3) × (y .header .r2 ≡ 3)) × OnesBody k (y .body)
+-- the reserved bits of its header are ones
+abbrev pub OnesHeader : {k : Kind} → Section k → Type 0
+OnesHeader y = (y .header .r1 ≡ 3) × (y .header .r2 ≡ 3)

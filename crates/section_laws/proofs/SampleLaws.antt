@@ -16,8 +16,9 @@ use Rattle.descriptor.specs.Descriptors.{region, descriptors, contentAdvisory}
 use Rattle.channel.specs.Format.{channelFormat}
 use Rattle.rrt.specs.Format.{DimensionFields, dimensionFormat}
 use Rattle.eit.specs.Format.{eventFormat}
+use Rattle.eit.specs.Values.{OnesEit}
 use Rattle.section.specs.Bodies.{bodyFormat}
-use Rattle.section.specs.Encoding.{Section, lengthWith, unsealed, bodyBytes, WellFormed, AllOnes}
+use Rattle.section.specs.Encoding.{Section, lengthWith, unsealed, bodyBytes, WellFormed, OnesHeader}
 use Rattle.section_laws.specs.Samples.{nothing, noStrings, teaSegment, teaString, tea, noDescriptors, regionOne, advised, teaChannel, teaEvent, dimensionOf, named, section, bare, full}
 
 -- ---- their parts
@@ -85,12 +86,15 @@ full-good Eit =
 full-good Ett = good Ett 7 _ (omega arith, tea-ok) (omega arith)
 
 -- and their reserved bits are ones
-pub full-ones : (k : Kind) → AllOnes k (full k)
-full-ones Mgt = ((refl, refl), ((((refl, (refl, record {})), refl), record {}), refl))
-full-ones Tvct = ((refl, refl), ((((refl, record {}), refl), record {}), refl))
-full-ones Rrt = ((refl, refl), ((refl, (refl, record {})), refl))
-full-ones Eit = ((refl, refl), (((refl, (refl, record {})), refl), record {}))
-full-ones Ett = ((refl, refl), record {})
+pub full-ones : (k : Kind) → OnesHeader (full k)
+full-ones Mgt = (refl, refl)
+full-ones Tvct = (refl, refl)
+full-ones Rrt = (refl, refl)
+full-ones Eit = (refl, refl)
+full-ones Ett = (refl, refl)
+
+pub full-events-ones : OnesEit (full Eit .body)
+full-events-ones = (((refl, (refl, record {})), refl), record {})
 
 -- ---- the bytes of an EIT with the event and no descriptors, but for its checksum: the header; the count and the event's head; the
 -- title; the length of the descriptors

@@ -55,8 +55,8 @@ abbrev pub Unique : Type 0
 Unique = (k : Kind) (x y : Section k) → WellFormed k x → WellFormed k y → encode x ≡ encode y → x ≡ y
 
 -- ---- a reader of a kind: of the encoding of a record it answers what is told of that, and what the judge refuses it refuses alike
-pub record Reads (k : Kind) {A : Type 0} (reader : List ℕ → Outcome A) (told : Section k → Outcome A) : Type 0 where
-  pub tells : (y : Section k) → WellFormed k y → reader (encode y) ≡ told y
+pub record Reads (k : Kind) {A : Type 0} (reader : List ℕ → Outcome A) (tell : Section k → Outcome A) : Type 0 where
+  pub tells : (y : Section k) → WellFormed k y → reader (encode y) ≡ tell y
   pub refuses : (s : List ℕ) (n : ℕ) → sectionBy (onlyOf k) s ≡ refused n → reader s ≡ refused n
 
 -- 9 is the judge's: of a section that it accepts no reader says it again
@@ -64,13 +64,13 @@ abbrev pub NoNine : Kind → {A : Type 0} → (List ℕ → Outcome A) → Type 
 NoNine k reader = (s : List ℕ) → Bytes s → (h : Header) → sectionBy (onlyOf k) s ≡ result h → reader s ≡ refused 9 → ⊥
 
 -- a writer into a lent list: what it leaves there is what is told, and a section that is refused leaves it as it was
-pub record Stores (k : Kind) (writer : List ℕ → List ℕ → List ℕ) (told : List ℕ → Section k → List ℕ) : Type 0 where
-  pub stores : (l : List ℕ) (y : Section k) → WellFormed k y → writer l (encode y) ≡ told l y
+pub record Stores (k : Kind) (writer : List ℕ → List ℕ → List ℕ) (tell : List ℕ → Section k → List ℕ) : Type 0 where
+  pub stores : (l : List ℕ) (y : Section k) → WellFormed k y → writer l (encode y) ≡ tell l y
   pub keeps : (l s : List ℕ) (n : ℕ) → sectionBy (onlyOf k) s ≡ refused n → writer l s ≡ l
 
 -- a reader of a text field alone: 9 where its bytes are those of no text
-pub record ReadsText {A : Type 0} (reader : List ℕ → Outcome A) (told : List StringFields → Outcome A) : Type 0 where
-  pub tells : (t : text .Val) → text .Ok (record {}) t → reader (text .enc t) ≡ told (stringsOf t)
+pub record ReadsText {A : Type 0} (reader : List ℕ → Outcome A) (tell : List StringFields → Outcome A) : Type 0 where
+  pub tells : (t : text .Val) → text .Ok (record {}) t → reader (text .enc t) ≡ tell (stringsOf t)
   pub refuses : (f : List ℕ) → Bytes f → ((t : text .Val) → text .Ok (record {}) t → f ≡ text .enc t → ⊥) → reader f ≡ refused 9
 
 -- ---- what is asked of sections and of texts: entry i, value j, string or descriptor k; a region and a dimension; the room of a lent list, or the list itself as

@@ -108,8 +108,8 @@ storedRows l rows (result n) = sets l 0 rows
 -- ---- the rows of all values of an RRT, of six numbers each
 -- what is told of values that stand one after the other, the first of which is number k and stands at a: by number, place and value
 unfoldable pub numbered : {X : Type 0} → (X → List ℕ) → (ℕ → ℕ → X → List ℕ) → ℕ → ℕ → List X → List ℕ
-numbered enc told k a [] = []
-numbered enc told k a (x ∷ xs) = told k a x ++ numbered enc told (k + 1) (a + length (enc x)) xs
+numbered enc tell k a [] = []
+numbered enc tell k a (x ∷ xs) = tell k a x ++ numbered enc tell (k + 1) (a + length (enc x)) xs
 
 -- the rows of the values of dimension i, which begins at d
 abbrev pub dimensionRowsTold : ℕ → ℕ → DimensionFields → List ℕ

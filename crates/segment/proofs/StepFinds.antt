@@ -9,13 +9,13 @@ use Rattle.annex_c.specs.Tree.{tree, walked}
 use Rattle.steps.specs.Steps.{stepTable}
 use Rattle.steps.specs.Reaches.{Stepping}
 use Rattle.steps.proofs.StepLaws.{stepping}
-use Rattle.segment.specs.Bits.{bits}
+use Rattle.segment.specs.Bits.{allBits}
 use Rattle.segment.specs.Inner.{Window, onFrom, SymbolAt, Finds}
 use Rattle.segment.specs.declared.ReadSymbol.{ReadSymbol}
 use Rattle.segment.specs.declared.ReadSymbol.the-variants.{Symbol, Early}
 use Rattle.segment.proofs.BitLaws.{length-bits}
 
-module _ (t s : List ℕ) (at p e : ℕ) (step : Stepping (tree t p) (bits s) at e) where
+module _ (t s : List ℕ) (at p e : ℕ) (step : Stepping (tree t p) (allBits s) at e) where
   pub step-rest : e < 2048 → (f : ReadSymbol) → Finds (onFrom t (e / 16)) s (at + e % 16) p f → Finds (walked t) s at p f
   unfolding walked
   step-rest h Early r = step .reach .node (omega arith) ∙ r
@@ -25,7 +25,7 @@ module _ (t s : List ℕ) (at p e : ℕ) (step : Stepping (tree t p) (bits s) at
     inside = r .inside;
   }
 
-  pub step-over : 2048 ≤ e → 8 * length s < at + e % 16 → walked t p (drop at (bits s)) ≡ early
+  pub step-over : 2048 ≤ e → 8 * length s < at + e % 16 → walked t p (drop at (allBits s)) ≡ early
   unfolding walked
   step-over h b = step .reach .over (omega arith) (omega (arith, length-bits s))
 
@@ -34,7 +34,7 @@ module _ (t s : List ℕ) (at p e : ℕ) (step : Stepping (tree t p) (bits s) at
   step-leaf h b =
       let v : e / 16 - 128 ≡ e / 16 % 128 = omega (arith, step .low) in
       record {
-        reads = step .reach .leaf (omega arith) (omega (arith, length-bits s)) ∙ ap (λ (x : ℕ). symbol x (drop (at + e % 16) (bits s))) v;
+        reads = step .reach .leaf (omega arith) (omega (arith, length-bits s)) ∙ ap (λ (x : ℕ). symbol x (drop (at + e % 16) (allBits s))) v;
         onward = omega (arith, step .onward h);
         inside = b;
       }
@@ -47,7 +47,7 @@ four w (suc (suc zero)) l = omega arith
 four w (suc (suc (suc zero))) l = omega arith
 four w (suc (suc (suc (suc j)))) l = absurd (omega arith)
 
-pub step-made : (t s : List ℕ) (at p w e : ℕ) → Window s at w → e ≡ getD (stepTable t) (16 * p + w / 16) 0 → e < 4096 → Stepping (tree t p) (bits s) at e
+pub step-made : (t s : List ℕ) (at p w e : ℕ) → Window s at w → e ≡ getD (stepTable t) (16 * p + w / 16) 0 → e < 4096 → Stepping (tree t p) (allBits s) at e
 step-made t s at p w e z q low =
-    stepping t (bits s) p at (w / 16) e (omega (arith, z .small))
+    stepping t (allBits s) p at (w / 16) e (omega (arith, z .small))
     (λ j l. ap (λ (x : ℕ). x % 2) (four w j l) ∙ z .bit j (omega arith)) q low

@@ -9,7 +9,7 @@ use native.Mathlib.Omega.{arith}
 use lib.Dec.{ltb}
 use lib.ListN.{length, getD, take, drop}
 use borrow.Author.Tests.{ltb-true, ltb-false}
-use Rattle.segment.specs.Bits.{bits, numberOfBits}
+use Rattle.segment.specs.Bits.{allBits, numberOfBits}
 use Rattle.segment.specs.Inner.{Window}
 use Rattle.segment.proofs.BitLaws.{length-bits, bit-at, number-more, number-all}
 
@@ -55,7 +55,7 @@ window-bit x m j l =
 
 module _ (s : List ℕ) (at a b : ℕ) (first : a ≡ getD s (at / 8) 0) (second : b ≡ getD s (at / 8 + 1) 0) (small : b < 256) where
   bit-by : (j : ℕ) → j < 8 → (x : Bool) → ltb (at % 8 + j) 8 ≡ x
-      → (256 * a + b) / 2 ^ ((8 - at % 8) + (7 - j)) % 2 ≡ getD (bits s) (at + j) 0
+      → (256 * a + b) / 2 ^ ((8 - at % 8) + (7 - j)) % 2 ≡ getD (allBits s) (at + j) 0
   bit-by j l true q =
       let h : at % 8 + j < 8 = ltb-true (at % 8 + j) 8 q in
       let e : (8 - at % 8) + (7 - j) ≡ 8 + (7 - (at % 8 + j)) = omega arith in
@@ -93,17 +93,17 @@ halve w (suc (suc (suc (suc (suc (suc (suc (suc i)))))))) l = absurd (omega arit
 
 module _ (s : List ℕ) (at w : ℕ) (z : Window s at w) (h : at + 8 ≤ 8 * length s) where
   so-far : (i : ℕ) → i ≤ 8
-      → numberOfBits 0 (take 8 (drop at (bits s))) ≡ numberOfBits (w / 2 ^ (8 - i)) (take (8 - i) (drop (at + i) (bits s)))
+      → numberOfBits 0 (take 8 (drop at (allBits s))) ≡ numberOfBits (w / 2 ^ (8 - i)) (take (8 - i) (drop (at + i) (allBits s)))
   so-far zero l =
       let e : w / 256 ≡ 0 = omega (arith, z .small) in
       rw (add-zero, e)
   so-far (suc i) l =
-      let b : at + i < length (bits s) = omega (arith, length-bits s) in
-      so-far i (omega arith) ∙ number-more (bits s) at i (w / 2 ^ (8 - i)) (omega arith) b
-      ∙ ap (λ (x : ℕ). numberOfBits (2 * (w / 2 ^ (8 - i)) + x) (take (8 - (i + 1)) (drop (at + (i + 1)) (bits s)))) (sym (z .bit i (omega arith)))
-      ∙ ap (λ (x : ℕ). numberOfBits x (take (8 - (i + 1)) (drop (at + (i + 1)) (bits s)))) (halve w i (omega arith)) ∙ rw add-one
+      let b : at + i < length (allBits s) = omega (arith, length-bits s) in
+      so-far i (omega arith) ∙ number-more (allBits s) at i (w / 2 ^ (8 - i)) (omega arith) b
+      ∙ ap (λ (x : ℕ). numberOfBits (2 * (w / 2 ^ (8 - i)) + x) (take (8 - (i + 1)) (drop (at + (i + 1)) (allBits s)))) (sym (z .bit i (omega arith)))
+      ∙ ap (λ (x : ℕ). numberOfBits x (take (8 - (i + 1)) (drop (at + (i + 1)) (allBits s)))) (halve w i (omega arith)) ∙ rw add-one
 
-  pub eight-bits : w ≡ numberOfBits 0 (take 8 (drop at (bits s)))
+  pub eight-bits : w ≡ numberOfBits 0 (take 8 (drop at (allBits s)))
   eight-bits =
       let e : w / 1 ≡ w = omega arith in
-      sym (so-far 8 (omega arith) ∙ number-all (drop (at + 8) (bits s)) 8 (w / 1) (omega arith) ∙ e)
+      sym (so-far 8 (omega arith) ∙ number-all (drop (at + 8) (allBits s)) 8 (w / 1) (omega arith) ∙ e)

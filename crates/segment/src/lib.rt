@@ -16,9 +16,8 @@ ghost use lib.ListN.{length, getD, take, drop};
 ghost use Rattle.annex_c.specs.Tree.{tree, walked};
 ghost use Rattle.trees.specs.Which.{tableOf};
 ghost use Rattle.steps.specs.Reaches.{Stepping};
-ghost use Rattle.segment.specs.Bits.{bits, numberOfBits};
-ghost use Rattle.segment.specs.Text.{judgedText};
-ghost use Rattle.segment.specs.Inner.{written, Window, onFrom, Finds, answer, PairOutcome, CodedAt, RawAt, Room};
+ghost use Rattle.segment.specs.Bits.{allBits, numberOfBits};
+ghost use Rattle.segment.specs.Inner.{judgedText, written, Window, onFrom, Finds, answer, PairOutcome, CodedAt, RawAt, Room};
 ghost use Rattle.segment.specs.Segment.{endedText, cutText, segmentText};
 
 // What a segment holds: so many units, or the refusal's number.
@@ -38,7 +37,7 @@ const BROKEN: usize = 4107;
 
 // Bit i of the bytes, and 0 past their end.
 fn bit_at(s: &[u8], i: usize) -> usize
-    ensures { λ r. ⌜ (r ≡ getD (bits (now (s .entry))) i 0) × (r < 2) ⌝ }
+    ensures { λ r. ⌜ (r ≡ getD (allBits (now (s .entry))) i 0) × (r < 2) ⌝ }
 {
     (byte(s, i / 8) >> (7 - i % 8)) % 2
 }
@@ -53,7 +52,7 @@ fn window(s: &[u8], at: usize) -> usize
 // The number that the eight bits from `at` on are.
 fn eight_at(s: &[u8], at: usize) -> u8
     requires { ⌜ at + 8 ≤ 8 * length (now s) ⌝ }
-    ensures { λ r. ⌜ r ≡ numberOfBits 0 (take 8 (drop at (bits (now (s .entry))))) ⌝ }
+    ensures { λ r. ⌜ r ≡ numberOfBits 0 (take 8 (drop at (allBits (now (s .entry))))) ⌝ }
 {
     window(s, at) as u8
 }
@@ -80,7 +79,7 @@ fn rest_at(titles: bool, s: &[u8], from: usize, prior: u8, first: usize) -> Read
 
 // One coded symbol, from bit `at` on: where the step e leads, and the rest of a longer code by the tree.
 fn step_at(titles: bool, s: &[u8], at: usize, prior: u8, e: usize) -> ReadSymbol
-    requires { ⌜ (length (now s) ≤ 255) × (at ≤ 8 * length (now s)) × Stepping (tree (tableOf titles) prior) (bits (now s)) at e ⌝ }
+    requires { ⌜ (length (now s) ≤ 255) × (at ≤ 8 * length (now s)) × Stepping (tree (tableOf titles) prior) (allBits (now s)) at e ⌝ }
     ensures { λ r. ⌜ Finds (walked (tableOf titles)) (now (s .entry)) at prior r ⌝ }
 {
     let next = at + e % 16;

@@ -14,8 +14,8 @@ use Rattle.section.specs.declared.header.Header.{Header}
 use Rattle.logic.proofs.LoopLaws.{any-first, any-yes}
 use Rattle.shelf_state.proofs.RecordLaws.{drop-none}
 use Rattle.shelf_state.proofs.RuleLaws.{Rules, found-live, in-range, rules}
-use Rattle.shelf_state.specs.Records.{blankWatch, isOf, watchAt, watchIn}
-use Rattle.shelf_state.specs.Searches.{dropBelow, dropped, findWatch, setPlace, setWatch, watchOf, watched}
+use Rattle.shelf_state.specs.Records.{blankWatch, isOf, watchAt}
+use Rattle.shelf_state.specs.Searches.{watchIn, dropBelow, dropped, findWatch, setPlace, setWatch, watchOf, watched}
 use Rattle.shelf_state.specs.Rules.{obeys}
 use Rattle.shelf_state.specs.declared.records.Asked.{Asked}
 use Rattle.shelf_state.specs.declared.records.Edition.{Edition}

@@ -6,8 +6,8 @@ use lib.Dec.{leb}
 use Rattle.part.specs.declared.Part.{Part}
 use Rattle.refusal.specs.Outcomes.{refused, result}
 use Rattle.logic.specs.Loops.{any, count}
-use Rattle.shelf_state.specs.Records.{noEdition, blankWatch, watchAt, placeAt, emptyShelf}
-use Rattle.shelf_state.specs.Searches.{keyOf, watched, watchOf, freeRecord, isHeld, placeOf, setWatch, dropped}
+use Rattle.shelf_state.specs.Records.{noEdition, blankWatch, watchAt, placeAt}
+use Rattle.shelf_state.specs.Searches.{emptyShelf, keyOf, watched, watchOf, freeRecord, isHeld, placeOf, setWatch, dropped}
 use Rattle.shelf_state.specs.Rules.{promised, inRange, sizesInRange, obeys}
 use Rattle.shelf_state.specs.declared.records.Asked.{Asked}
 use Rattle.shelf_state.specs.declared.records.Watch.{Watch}

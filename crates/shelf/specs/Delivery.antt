@@ -10,8 +10,8 @@ use Rattle.logic.specs.Choices.{pick}
 use Rattle.logic.specs.Loops.{any}
 use Rattle.refusal.specs.Outcomes.{Outcome, refused, result, orRefuse}
 use Rattle.section.specs.declared.header.Header.{Header}
-use Rattle.shelf_state.specs.Records.{watchIn, watchAt, placeIn, isOf, holds}
-use Rattle.shelf_state.specs.Searches.{findWatch, findPlace, firstFree, setWatch, setPlace, dropped}
+use Rattle.shelf_state.specs.Records.{watchAt, isOf, holds}
+use Rattle.shelf_state.specs.Searches.{watchIn, placeIn, findWatch, findPlace, firstFree, setWatch, setPlace, dropped}
 use Rattle.shelf_state.specs.Rules.{obeys}
 use Rattle.shelf_state.specs.declared.records.Asked.{Asked}
 use Rattle.shelf_state.specs.declared.records.Watch.{Watch}

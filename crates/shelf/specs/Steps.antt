@@ -36,8 +36,9 @@ abbrev pub lentTo : State → Lent → List ℕ
 lentTo x own = x .area
 lentTo x (other l) = l
 
--- holds of a turn that is lent the shelf's own area, or another memory whose length is not n, which 14 refuses. Turns of which it does not hold write what
--- is not the shelf's, and are left out of the laws (docs/DECISIONS.md, 43)
+-- holds of a turn that is lent the shelf's own area, or another memory whose length is not n, which 14 refuses. Another memory of the same length would
+-- hold what the shelf's records speak of outside of its area: then something else writes the shelf, of which the third demand does not speak. Such turns
+-- are left out of the laws (docs/DECISIONS.md, 43)
 abbrev pub ownOr14 : ℕ → Lent → Bool
 ownOr14 n own = true
 ownOr14 n (other l) = not (eqb (length l) n)
@@ -76,7 +77,7 @@ pub record Step : Type 0 where
 abbrev pub onlyRead : {A : Type 0} → State → (Outcome A → Answer) → After A → Step
 onlyRead x f r = record { answer = f (r .outcome); next = record { shelf = r .shelf; area = x .area } }
 
--- ---- the calls, by the definitions that their promises cite
+-- ---- the calls, by the definitions that their promises cite: on x, with the memory l lent, which u says whether it is x's own
 unfoldable pub stepOn : State → Lent → List ℕ → Call → Step
 stepOn x u l (opens o) = onlyRead x did (opened (x .shelf) (length l) (o .key) (o .quota))
 stepOn x u l (closes c) = onlyRead x did (closed (x .shelf) (length l) (c .key))

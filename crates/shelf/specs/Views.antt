@@ -1,4 +1,4 @@
--- SCOPE 3.5 and 5: the first page to read of the shelf. What a key's watch has collected is its view: its quota, its edition and what is
+-- SCOPE 3.5 and 5: the first page of the shelf's calls. What a key's watch has collected is its view: its quota, its edition and what is
 -- kept of its sections, by number. What a call answers to a key is told here of that view (of an opening, also of the records and places that
 -- are left), and what it does to the view is told of that view, the call and whether it was accepted. How a shelf keeps its views, in watch
 -- records, places and an area, is told at the end.
@@ -7,13 +7,13 @@ use mathlib.Core.Bool.{Bool, true, false, not}
 use mathlib.Core.List.{List}
 use mathlib.Core.Option.{Option, some, none}
 use lib.Dec.{leb, eqb}
-use lib.ListN.{take, drop}
 use Rattle.logic.specs.Choices.{pick, ifEq}
 use Rattle.logic.specs.Loops.{_&_, any, count, first}
-use Rattle.bytes_at.specs.Fields.{byteAt, wordAt}
 use Rattle.kind.specs.Kinds.{kindOf}
+use Rattle.part.specs.Parts.{bytesIn}
 use Rattle.refusal.specs.Outcomes.{Outcome, refused, result, orRefuse}
 use Rattle.section.specs.declared.header.Header.{Header}
+use Rattle.section.specs.Headers.{tableId, tableIdExtension}
 use Rattle.section.specs.Sections.{sectionBy}
 use Rattle.shelf_state.specs.Records.{noEdition, watchAt, placeAt, sameKey, isOf, holds}
 use Rattle.shelf_state.specs.Rules.{inRange, promised}
@@ -38,7 +38,7 @@ judged b = sectionBy kindOf b
 
 -- the key of a section that comes on a PID; no other place makes one of a section's bytes
 abbrev pub keyIn : ℕ → List ℕ → Asked
-keyIn pid b = record { pid = pid; «table_id» = byteAt b 0; extension = wordAt b 3 }
+keyIn pid b = record { pid = pid; «table_id» = tableId b; extension = tableIdExtension b }
 
 -- what it is before any watch is asked: 15, 1 to 9, 16, or a current section
 abbrev pub currentOf : Outcome Header → Outcome Header
@@ -170,7 +170,7 @@ atFirst n f g = pick (any n f) (some (g (first n f))) none
 
 -- the first n bytes of place i
 abbrev pub bytesAt : List ℕ → ℕ → ℕ → List ℕ
-bytesAt area i n = take n (drop (i * 4096) area)
+bytesAt area i n = bytesIn area (record { start = i * 4096; length = n })
 
 unfoldable pub keptAt : Shelf → List ℕ → ℕ → ℕ → Option Kept
 keptAt s area w m = atFirst (s .count) (λ i. holds (placeAt s i) w m) (λ i. record { bytes = bytesAt area i (placeAt s i .length) })

@@ -10,7 +10,8 @@ use borrow.Author.Tests.{leb-true}
 use Rattle.logic.proofs.CountLaws.{sum-cong, sum-zero}
 use Rattle.logic.proofs.LoopLaws.{and-left, and-right, true-false}
 use Rattle.refusal.specs.Outcomes.{Outcome, orRefuse, result}
-use Rattle.shelf_state.specs.Records.{blankPlace, blankWatch, emptyShelf, isOf, placeAt, watchAt}
+use Rattle.shelf_state.specs.Records.{blankPlace, blankWatch, isOf, placeAt, watchAt}
+use Rattle.shelf_state.specs.Searches.{emptyShelf}
 use Rattle.shelf_state.specs.Rules.{obeys, promised, quotaOf, sizesInRange}
 use Rattle.shelf_state.specs.declared.records.Asked.{Asked}
 use Rattle.shelf_state.specs.declared.records.Place.{Place}
@@ -88,8 +89,8 @@ made-law places records = go (sizesInRange places records)
     go false = refl
 
 pub empty-law : EmptyLaw
-unfolding made
+unfolding made emptyShelf
 empty-law places records area e f =
     let p = passed 14 (emptyShelf 0 0) _ _ tt e in
-    subst (λ (r : After (Unit {0})). Empty (record { shelf = r .shelf; area = area })) (go-on 14 (emptyShelf 0 0) _ _ (p .0) refl)
-    (record { rules = empty-obeys places records (length area) (p .0) f; nothing-promised = none-promised places records; no-view = none-viewed places records area })
+    subst (λ (r : After (Unit {0})). Empty places records (record { shelf = r .shelf; area = area })) (go-on 14 (emptyShelf 0 0) _ _ (p .0) refl)
+    (record { places-are = refl; records-are = refl; rules = empty-obeys places records (length area) (p .0) f; nothing-promised = none-promised places records; no-view = none-viewed places records area })

@@ -12,7 +12,8 @@ use Rattle.logic.specs.Loops.{_&_}
 use Rattle.logic.proofs.CountLaws.{sum-at}
 use Rattle.logic.proofs.LoopLaws.{same-or-not, true-false}
 use Rattle.shelf_state.specs.Records.{isOf, sameKey, watchAt}
-use Rattle.shelf_state.specs.Rules.{promised, promisedIn, quotaOf}
+use Rattle.shelf_state.specs.Rules.{promised, quotaOf}
+use Rattle.shelf_state.specs.Searches.{promisedIn}
 use Rattle.shelf_state.specs.declared.records.Asked.{Asked}
 use Rattle.shelf_state.specs.declared.records.Shelf.{Shelf}
 use Rattle.shelf_state.specs.declared.records.Watch.{Watch}

@@ -41,7 +41,7 @@ quotaClosed (fetches g) y f = 0
 quotaClosed (delivers d) y f = 0
 
 -- ---- one step: the rules are kept, the area keeps its length, the next view of any key is a function of its view, the call and
--- whether the call was accepted, and the places promised move by the quotas opened and closed
+-- whether the call was accepted, and the places promised move by the quotas opened and closed. (Stays.antt has what else stays)
 pub record OneStep (x : State) (t : Turn) : Type 0 where
   pub keeps : Obeys (step x t .next)
   pub size : length (step x t .next .area) ≡ length (x .area)
@@ -100,15 +100,17 @@ EqualBytesStay = (x : State) (d : Delivery) (h : Header) (v : View) → Obeys x 
     → viewIn x (keyIn (d .pid) (d .bytes)) ≡ some v → sameEdition (v .edition) h ≡ true → v .kept (h .number) ≡ some (record { bytes = d .bytes })
     → step x (record { call = delivers d; lent = own }) ≡ record { answer = did (result tt); next = x }
 
--- ---- an empty shelf is made where its sizes are in range; it obeys its rules, promises nothing and watches no key
+-- ---- an empty shelf is made where its sizes are in range; it has them, obeys its rules, promises nothing and watches no key
 abbrev pub MadeLaw : Type 0
 MadeLaw = (places records : ℕ) → made places records .outcome ≡ orRefuse 14 (sizesInRange places records) (result tt)
 
-pub record Empty (x : State) : Type 0 where
+pub record Empty (places records : ℕ) (x : State) : Type 0 where
+  pub places-are : x .shelf .count ≡ places
+  pub records-are : x .shelf .records ≡ records
   pub rules : Obeys x
   pub nothing-promised : promised (x .shelf) ≡ 0
   pub no-view : (k : Asked) → viewIn x k ≡ none
 
 abbrev pub EmptyLaw : Type 0
 EmptyLaw = (places records : ℕ) (area : List ℕ) → made places records .outcome ≡ result tt → length area ≡ places * 4096
-    → Empty (record { shelf = made places records .shelf; area = area })
+    → Empty places records (record { shelf = made places records .shelf; area = area })

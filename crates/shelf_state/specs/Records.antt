@@ -1,8 +1,7 @@
 -- SCOPE 5.2: what the records of the shelf mean.
 use Prim.Native.Nat.{ℕ}
 use mathlib.Core.Bool.{Bool, false}
-use mathlib.Core.List.{List}
-use lib.ListN.{getD, replicate}
+use lib.ListN.{getD}
 use lib.Dec.{eqb}
 use Rattle.logic.specs.Loops.{_&_}
 use Rattle.shelf_state.specs.declared.records.Key.{Key}
@@ -26,17 +25,12 @@ blankWatch = record { live = false; key = blankKey; quota = 0; edition = noEditi
 abbrev pub blankPlace : Place
 blankPlace = record { used = false; watch = 0; number = 0; length = 0 }
 
-abbrev pub watchIn : List Watch → ℕ → Watch
-watchIn ws i = getD ws i blankWatch
-
+-- record i, and place i
 abbrev pub watchAt : Shelf → ℕ → Watch
-watchAt s i = watchIn (s .watches) i
-
-abbrev pub placeIn : List Place → ℕ → Place
-placeIn ps i = getD ps i blankPlace
+watchAt s i = getD (s .watches) i blankWatch
 
 abbrev pub placeAt : Shelf → ℕ → Place
-placeAt s i = placeIn (s .places) i
+placeAt s i = getD (s .places) i blankPlace
 
 -- ---- keys
 -- the key that a record keeps, as a call names it
@@ -58,7 +52,3 @@ holdsFor p w = p .used & eqb (p .watch) w
 
 unfoldable pub holds : Place → ℕ → ℕ → Bool
 holds p w n = holdsFor p w & eqb (p .number) n
-
--- ---- a shelf of these sizes with closed records and free places
-unfoldable pub emptyShelf : ℕ → ℕ → Shelf
-emptyShelf count records = record { watches = replicate 16 blankWatch; records = records; places = replicate 64 blankPlace; count = count }

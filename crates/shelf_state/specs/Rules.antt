@@ -2,7 +2,6 @@
 -- sizes in use, are judged. Of a shelf, `records` is how many watches are in use, and `count` how many places.
 use Prim.Native.Nat.{ℕ, _*_}
 use mathlib.Core.Bool.{Bool, false, not}
-use mathlib.Core.List.{List}
 use lib.ListN.{length}
 use lib.Dec.{ltb, leb, eqb}
 use Rattle.logic.specs.Choices.{pick}
@@ -10,10 +9,9 @@ use Rattle.kind.specs.declared.Found.{Found}
 use Rattle.kind.specs.declared.Found.the-variants.{Is, Nothing}
 use Rattle.kind.specs.Kinds.{kindOf, limitsOf}
 use Rattle.logic.specs.Loops.{_&_, _⇒_, all, any, sum, count}
-use Rattle.shelf_state.specs.Records.{asked, watchIn, watchAt, placeIn, placeAt, isOf, holdsFor, holds}
+use Rattle.shelf_state.specs.Records.{asked, watchAt, placeAt, isOf, holdsFor, holds}
 use Rattle.shelf_state.specs.declared.records.Asked.{Asked}
 use Rattle.shelf_state.specs.declared.records.Watch.{Watch}
-use Rattle.shelf_state.specs.declared.records.Place.{Place}
 use Rattle.shelf_state.specs.declared.records.Shelf.{Shelf}
 
 -- ---- the words of the rules
@@ -22,18 +20,12 @@ unfoldable pub quotaOf : Watch → ℕ
 quotaOf w = pick (w .live) (w .quota) 0
 
 -- the places promised: the sum of the open watches' quotas
-abbrev pub promisedIn : List Watch → ℕ → ℕ
-promisedIn ws n = sum n (λ i. quotaOf (watchIn ws i))
-
 abbrev pub promised : Shelf → ℕ
-promised s = promisedIn (s .watches) (s .records)
+promised s = sum (s .records) (λ i. quotaOf (watchAt s i))
 
 -- how many sections watch w holds
-abbrev pub heldAmong : List Place → ℕ → ℕ → ℕ
-heldAmong ps k w = count k (λ i. holdsFor (placeIn ps i) w)
-
 abbrev pub heldBy : Shelf → ℕ → ℕ
-heldBy s w = heldAmong (s .places) (s .count) w
+heldBy s w = count (s .count) (λ i. holdsFor (placeAt s i) w)
 
 -- a kind that may be watched
 unfoldable pub watchable : Found → Bool

@@ -1,18 +1,33 @@
 -- SCOPE 5.2, 5.5 and 5.6, for the calls: the record of a key's watch, the place of a section, the lowest that are free, and a shelf with one
--- of its records changed.
+-- of its records changed; and an empty shelf.
 use Prim.Native.Nat.{ℕ}
 use mathlib.Core.Bool.{Bool, not}
 use mathlib.Core.List.{List}
-use lib.ListN.{set}
+use lib.ListN.{getD, set, replicate}
 use Rattle.logic.specs.Choices.{pick}
-use Rattle.logic.specs.Loops.{any, first}
+use Rattle.logic.specs.Loops.{any, first, sum, count}
 use Rattle.logic.specs.Inner.{each}
 use Rattle.shelf_state.specs.declared.records.Key.{Key}
 use Rattle.shelf_state.specs.declared.records.Asked.{Asked}
 use Rattle.shelf_state.specs.declared.records.Watch.{Watch}
 use Rattle.shelf_state.specs.declared.records.Place.{Place}
 use Rattle.shelf_state.specs.declared.records.Shelf.{Shelf}
-use Rattle.shelf_state.specs.Records.{blankPlace, watchIn, watchAt, placeIn, placeAt, isOf, holdsFor, holds}
+use Rattle.shelf_state.specs.Records.{blankWatch, blankPlace, watchAt, placeAt, isOf, holdsFor, holds}
+use Rattle.shelf_state.specs.Rules.{quotaOf}
+
+-- ---- lists of records, of which a shelf has one of watches and one of places
+abbrev pub watchIn : List Watch → ℕ → Watch
+watchIn ws i = getD ws i blankWatch
+
+abbrev pub placeIn : List Place → ℕ → Place
+placeIn ps i = getD ps i blankPlace
+
+-- the places that the first n watches promise; how many of the first k places hold a section of watch w
+abbrev pub promisedIn : List Watch → ℕ → ℕ
+promisedIn ws n = sum n (λ i. quotaOf (watchIn ws i))
+
+abbrev pub heldAmong : List Place → ℕ → ℕ → ℕ
+heldAmong ps k w = count k (λ i. holdsFor (placeIn ps i) w)
 
 -- ---- searches
 -- the key that a record keeps of one that is asked
@@ -70,3 +85,7 @@ dropBelow s w n = record { watches = s .watches; records = s .records; places = 
 -- the shelf without watch w's sections
 abbrev pub dropped : Shelf → ℕ → Shelf
 dropped s w = dropBelow s w (s .count)
+
+-- ---- a shelf of these sizes with closed records and free places
+unfoldable pub emptyShelf : ℕ → ℕ → Shelf
+emptyShelf count records = record { watches = replicate 16 blankWatch; records = records; places = replicate 64 blankPlace; count = count }

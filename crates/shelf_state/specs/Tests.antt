@@ -4,8 +4,9 @@ use mathlib.Core.Bool.{Bool, not}
 use mathlib.Core.List.{List}
 use lib.Dec.{ltb, leb}
 use Rattle.logic.specs.Loops.{_&_, _⇒_, all, any}
-use Rattle.shelf_state.specs.Records.{asked, watchIn, watchAt, placeAt, isOf, holds}
-use Rattle.shelf_state.specs.Rules.{inRange, promisedIn, sizesFit}
+use Rattle.shelf_state.specs.Records.{asked, watchAt, placeAt, isOf, holds}
+use Rattle.shelf_state.specs.Searches.{watchIn, promisedIn}
+use Rattle.shelf_state.specs.Rules.{inRange, sizesFit}
 use Rattle.shelf_state.specs.declared.records.Watch.{Watch}
 use Rattle.shelf_state.specs.declared.records.Place.{Place}
 use Rattle.shelf_state.specs.declared.records.Shelf.{Shelf}

@@ -15,9 +15,9 @@ pub use crate::records::wide;
 pub use crate::records::wide_word;
 ghost use mathlib.Core.Path.{_≡_};
 ghost use Prim.Native.Nat.{_≤_, _<_};
-ghost use Rattle.shelf_state.specs.Records.{noEdition, blankWatch, blankPlace, emptyShelf};
-ghost use Rattle.shelf_state.specs.Searches.{findWatch, firstClosed, findPlace, firstFree, setWatch, release, dropped};
-ghost use Rattle.shelf_state.specs.Rules.{quotaOf, heldAmong};
+ghost use Rattle.shelf_state.specs.Records.{noEdition, blankWatch, blankPlace};
+ghost use Rattle.shelf_state.specs.Searches.{emptyShelf, findWatch, firstClosed, findPlace, firstFree, setWatch, release, dropped, heldAmong};
+ghost use Rattle.shelf_state.specs.Rules.{quotaOf};
 ghost use Rattle.shelf_state.specs.Tests.{roomIn};
 
 // The first open watch below n with the key, or n.

@@ -1,5 +1,5 @@
 -- A unit takes a bit or more, so a string has at most eight units for each byte of its field; no text is refused by a number past 13.
-use mathlib.Core.Path.{_≡_, refl, ap, subst}
+use mathlib.Core.Path.{_≡_, refl, ap, subst, sym}
 use mathlib.Core.List.{List, [], _∷_}
 use Prim.Native.Nat.{ℕ, zero, suc, _+_, _-_, _*_, _≤_}
 use native.Mathlib.Omega.{arith}
@@ -18,8 +18,9 @@ use Rattle.format.proofs.FieldLaws.{fields-end}
 use Rattle.format.proofs.FormatLaws.{head-forward}
 use Rattle.segment.specs.declared.Judged.{Judged}
 use Rattle.segment.specs.declared.Judged.the-variants.{Units, Refused}
-use Rattle.segment.specs.Bits.{bits}
-use Rattle.segment.specs.Text.{Text, units, judgedText}
+use Rattle.segment.specs.Bits.{allBits}
+use Rattle.segment.specs.Text.{Text}
+use Rattle.segment.specs.Inner.{judgedText}
 use Rattle.segment.specs.Segment.{segmentText, titleText, descriptionText}
 use Rattle.segment.proofs.BitLaws.{length-bits}
 use Rattle.segment.proofs.TextLaws.{Fits, fits-count}
@@ -30,7 +31,7 @@ use Rattle.text.specs.declared.segments.Way.the-variants.{Plain, Utf16, 
 use Rattle.text.specs.Segments.{utf16Units, unitsOrRefusal, unitsBy, pairs}
 use Rattle.text.specs.Strings.{segmentUnits, stringCount, stringAt, joinedUnits, stringUnits}
 use Rattle.text.specs.Values.{joined}
-use Rattle.text.proofs.UnitLaws.{pairs-length, judged-refusal}
+use Rattle.text.proofs.UnitLaws.{pairs-length, judged-refusal, text-refusal, text-units}
 
 -- at most m units, or a refusal of a text
 abbrev pub Few : ℕ → Outcome (List ℕ) → Type 0
@@ -43,16 +44,15 @@ few-more m n (result us) h f = omega (arith, h, f)
 
 -- ---- one segment
 text-few : (x : Text) (m : ℕ) → Fits m x → Few m (unitsOrRefusal x)
-unfolding unitsOrRefusal
 text-few x m f = by (judgedText 0 x) refl
   where
-    by : (j : Judged) → judgedText 0 x ≡ j → Few m (elim j [ Units n ↦ result (units x) | Refused k ↦ refused k ])
-    by (Units n) e = fits-count m x f
-    by (Refused k) e = omega (arith, judged-refusal m 0 k x f e)
+    by : (j : Judged) → judgedText 0 x ≡ j → Few m (unitsOrRefusal x)
+    by (Units n) e = subst (Few m) (sym (text-units 0 n x e)) (fits-count m x f)
+    by (Refused k) e = let q = judged-refusal m 0 k x f e in subst (Few m) (sym (text-refusal 0 k x e)) (omega (arith, q))
 
 compressed-few : (read : ℕ → List ℕ → Reading) (s : List ℕ) → Few (8 * length s) (unitsOrRefusal (segmentText read s))
 unfolding segmentText
-compressed-few read s = rw (← length-bits s) (text-few (segmentText read s) (length (bits s)) (coded-fits read (length (bits s)) 0 (bits s)))
+compressed-few read s = rw (← length-bits s) (text-few (segmentText read s) (length (allBits s)) (coded-fits read (length (allBits s)) 0 (allBits s)))
 
 utf16-few : (s : List ℕ) → Few (8 * length s) (utf16Units s)
 unfolding utf16Units

@@ -11,11 +11,11 @@ use Rattle.refusal.specs.Outcomes.{Outcome, refused, result}
 use Rattle.refusal.specs.declared.Refusal.{Refusal}
 use Rattle.annex_c.specs.Codes.{Reading}
 use Rattle.segment.specs.declared.Judged.the-variants as judges
-use Rattle.segment.specs.Bits.{bits}
-use Rattle.segment.specs.Text.{Text, done, unit, units, judgedText}
+use Rattle.segment.specs.Bits.{allBits}
+use Rattle.segment.specs.Text.{Text, done, unit}
+use Rattle.segment.specs.Inner.{units, judgedText, answer}
 use Rattle.segment.specs.Text as texts
 use Rattle.segment.specs.Segment.{segmentText}
-use Rattle.segment.specs.Inner.{answer}
 use Rattle.segment.specs.Inner as pair
 use Rattle.segment.proofs.BitLaws.{length-bits}
 use Rattle.segment.proofs.TextLaws.{Fits, answer-count, stored}
@@ -31,7 +31,7 @@ use Rattle.text.specs.Inner as inner
 use Rattle.text.specs.Inner.{Wrote, Once, WroteAll, OnceAll}
 use Rattle.refusal.proofs.OutcomeLaws.{same-result, not-both}
 use Rattle.refusal.proofs.OutputLaws.{counted-result, counted-refused, from-number, from-refusal}
-use Rattle.text.proofs.UnitLaws.{wrote-units, wrote-refused}
+use Rattle.text.proofs.UnitLaws.{text-refusal, text-units, wrote-units, wrote-refused}
 use Rattle.text.proofs.AmountLaws.{amount-refused, from-amount}
 use Rattle.text.proofs.FewLaws.{Few, segment-few}
 use Rattle.text.proofs.JoinLaws.{Going, going-refused, going-done, going-next, joined-refused}
@@ -71,21 +71,21 @@ once-wrote {x} {l} {n} {r} {e} w = record {
 well : (n m : ℕ) (x : Text) → answer n x < 4096 → judgedText m x ≡ judges.Units (m + length (units x))
 unfolding answer judgedText units
 well n m done h = ap judges.Units (omega arith)
-well n m (texts.refused k) h = absurd (omega arith)
+well n m (texts.stopped k) h = absurd (omega arith)
 well n m (unit u x) h = well (n + 1) (m + 1) x h ∙ ap judges.Units (omega arith)
 
 broken : (n m k : ℕ) (x : Text) → Fits k x → n + k < 4096 → 4096 ≤ answer n x → judgedText m x ≡ judges.Refused 11
 unfolding answer judgedText
 broken n m k done f b h = absurd (omega arith)
-broken n m k (texts.refused j) f b h = ap judges.Refused f
+broken n m k (texts.stopped j) f b h = ap judges.Refused f
 broken n m zero (unit u x) f b h = absurd f
 broken n m (suc k) (unit u x) f b h = broken (n + 1) (m + 1) k x f (omega arith) h
 
 module _ (read : ℕ → List ℕ → Reading) (s : List ℕ) (l e : List ℕ) (n a : ℕ) (room : n + 8 * length s ≤ 2040)
     (o : pair.PairOutcome (segmentText read s) n l a e) where
-  fits : Fits (length (bits s)) (segmentText read s)
+  fits : Fits (length (allBits s)) (segmentText read s)
   unfolding segmentText
-  fits = coded-fits read (length (bits s)) 0 (bits s)
+  fits = coded-fits read (length (allBits s)) 0 (allBits s)
 
   place : a < 4096 → a ≡ n + length (units (segmentText read s))
   place h = o .answers ∙ answer-count n (segmentText read s) (rw (o .answers) at h)
@@ -94,16 +94,14 @@ module _ (read : ℕ → List ℕ → Reading) (s : List ℕ) (l e : List ℕ) (
   once-after h = omega (arith, place h)
 
   pub once-text : a < 4096 → Once (unitsOrRefusal (segmentText read s)) l n (Value (a - n)) e
-  unfolding unitsOrRefusal
   once-text h =
       let d = well n 0 (segmentText read s) (rw (o .answers) at h) in
-      once-units (unitsOrRefusal (segmentText read s)) l n (a - n) (units (segmentText read s)) e (rw (unitsOrRefusal, d)) (omega (arith, place h)) (o .stores)
+      once-units (unitsOrRefusal (segmentText read s)) l n (a - n) (units (segmentText read s)) e (text-units 0 _ (segmentText read s) d) (omega (arith, place h)) (o .stores)
 
   pub once-broken : (r : Refusal) → numberOf r ≡ 11 → 4096 ≤ a → Once (unitsOrRefusal (segmentText read s)) l n (Refused r) e
-  unfolding unitsOrRefusal
   once-broken r q h =
-      let d = broken n 0 (length (bits s)) (segmentText read s) fits (omega (arith, length-bits s)) (rw (o .answers) at h) in
-      once-refused (unitsOrRefusal (segmentText read s)) l n r e (rw (unitsOrRefusal, d, q)) (ap length (o .stores) ∙ length-sets l n (units (segmentText read s)))
+      let d = broken n 0 (length (allBits s)) (segmentText read s) fits (omega (arith, length-bits s)) (rw (o .answers) at h) in
+      once-refused (unitsOrRefusal (segmentText read s)) l n r e (text-refusal 0 11 (segmentText read s) d ∙ ap refused (sym q)) (ap length (o .stores) ∙ length-sets l n (units (segmentText read s)))
 
 -- ---- the segments of a string
 are-units : (n : ℕ) (a : Amount) → amounts.Are (record { units = n; replaced = 0 }) ≡ amounts.Are a → n ≡ a .units

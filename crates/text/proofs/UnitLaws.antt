@@ -8,17 +8,18 @@ use lib.ListN.{length, getD, take, drop, length-take}
 use lib.Seq.{sets, set-out, take-all}
 use Rattle.bytes_at.specs.Fields.{byteAt}
 use Rattle.refusal.specs.Numbers.{numberOf}
-use Rattle.refusal.specs.Outcomes.{Outcome, refused, result}
+use Rattle.refusal.specs.Outcomes.{Outcome, refused, result, after}
 use Rattle.refusal.specs.declared.Refusal.{Refusal}
 use Rattle.refusal.proofs.OutcomeLaws.{same-result, not-both}
 use Rattle.refusal.proofs.TestLaws.{lets-eq, stops-eq}
-use Rattle.segment.specs.declared.Judged.the-variants.{Refused}
-use Rattle.segment.specs.Text.{Text, done, unit, judgedText}
+use Rattle.segment.specs.declared.Judged.the-variants.{Refused, Units}
+use Rattle.segment.specs.Text.{Text, done, unit}
+use Rattle.segment.specs.Inner.{judgedText, units}
 use Rattle.segment.specs.Text as texts
 use Rattle.segment.proofs.TextLaws.{Fits}
 use Rattle.text.specs.declared.answer.Number.the-variants as answers
 use Rattle.text.specs.declared.segments.Way.{Way}
-use Rattle.text.specs.Segments.{wayOf, pairs, utf16Units, unitsBy}
+use Rattle.text.specs.Segments.{wayOf, pairs, utf16Units, unitsOrRefusal, unitsBy}
 use Rattle.text.specs.Strings.{segmentUnits}
 use Rattle.text.specs.Inner.{plainPairs, plainBy, plainUnits, storedUnits, Wrote}
 use Rattle.refusal.proofs.OutputLaws.{counted-result, counted-refused}
@@ -80,9 +81,22 @@ stored-past l (u ∷ us) n h = stored-past l us (suc n) (omega arith) ∙ ap (λ
 pub judged-refusal : (m n k : ℕ) (x : Text) → Fits m x → judgedText n x ≡ Refused k → k ≡ 11
 unfolding judgedText
 judged-refusal m n k done f e = let z : _≡_ {A = ℕ} 0 1 = cc in absurd (omega arith)
-judged-refusal m n k (texts.refused j) f e = let q : j ≡ k = cc in omega arith
+judged-refusal m n k (texts.stopped j) f e = let q : j ≡ k = cc in omega arith
 judged-refusal zero n k (unit u x) f e = absurd f
 judged-refusal (suc m) n k (unit u x) f e = judged-refusal m (n + 1) k x f e
+
+-- ---- what its judge says of its units
+pub text-units : (n k : ℕ) (x : Text) → judgedText n x ≡ Units k → unitsOrRefusal x ≡ result (units x)
+unfolding judgedText unitsOrRefusal units after
+text-units n k done e = refl
+text-units n k (texts.stopped j) e = let z : _≡_ {A = ℕ} 0 1 = cc in absurd (omega arith)
+text-units n k (unit u x) e = ap (λ (o : Outcome (List ℕ)). after o (λ us. result (u ∷ us))) (text-units (n + 1) k x e)
+
+pub text-refusal : (n k : ℕ) (x : Text) → judgedText n x ≡ Refused k → unitsOrRefusal x ≡ refused k
+unfolding judgedText unitsOrRefusal after
+text-refusal n k done e = let z : _≡_ {A = ℕ} 0 1 = cc in absurd (omega arith)
+text-refusal n k (texts.stopped j) e = let q : j ≡ k = cc in ap refused q
+text-refusal n k (unit u x) e = ap (λ (o : Outcome (List ℕ)). after o (λ us. result (u ∷ us))) (text-refusal (n + 1) k x e)
 
 -- ---- plain bytes, one or two a unit
 module _ (wide : Bool) (s : List ℕ) (i : ℕ) (h : i < length (plainPairs wide s)) where

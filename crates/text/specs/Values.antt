@@ -31,9 +31,9 @@ headingFor x = record { language = x .language; segments = length (x .segments) 
 
 -- what is told of string k, counted from 0; 13 where there is none
 unfoldable pub ofString : {A : Type 0} → (StringFields → Outcome A) → List StringFields → ℕ → Outcome A
-ofString told [] k = refused 13
-ofString told (x ∷ xs) zero = told x
-ofString told (x ∷ xs) (suc k) = ofString told xs k
+ofString tell [] k = refused 13
+ofString tell (x ∷ xs) zero = tell x
+ofString tell (x ∷ xs) (suc k) = ofString tell xs k
 
 -- the heading and the units of string k
 abbrev pub headingOf : List StringFields → ℕ → Outcome Heading

@@ -1,11 +1,9 @@
 -- SCOPE 2.2: what is answered for a value of the TVCT's format, by the record alone, where its encoding lies at a place.
 use Prim.Native.Nat.{ℕ, _+_}
-use mathlib.Core.Path.{_≡_}
 use lib.ListN.{length}
-use Rattle.format.specs.Repeats.{All, encs}
+use Rattle.format.specs.Repeats.{encs}
 use Rattle.descriptor.specs.Descriptors.{descriptors, noTag}
 use Rattle.channel.specs.Format.{channelFormat}
-use Rattle.channel.specs.Values.{OnesChannel}
 use Rattle.tvct.specs.declared.table.Table.{Table}
 use Rattle.tvct.specs.Format.{TvctFields}
 
@@ -20,7 +18,3 @@ fieldsFor extension at b = record {
   count = length (b .channels);
   descriptors = record { start = channelsEnd at b + 2; length = length (descriptors noTag .enc (b .descs)) };
 }
-
--- all reserved bits are ones
-abbrev pub OnesTvct : TvctFields → Type 0
-OnesTvct b = All OnesChannel (b .channels) × (b .r ≡ 63)

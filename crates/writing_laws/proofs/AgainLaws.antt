@@ -8,7 +8,6 @@ use lib.Seq.{getD-append-add}
 use Rattle.refusal.specs.Outcomes.{result}
 use Rattle.refusal.proofs.OutcomeLaws.{same-result}
 use Rattle.kind.specs.declared.Kind.the-variants.{Eit}
-use Rattle.kind.specs.Kinds.{onlyOf}
 use Rattle.format.specs.Lawful.{Lies}
 use Rattle.format.specs.Repeats.{Bytes, All}
 use Rattle.format.specs.Laws.OfValues.{bytes-length}
@@ -20,19 +19,16 @@ use Rattle.descriptor.specs.Descriptors.{descriptors, contentAdvisory}
 use Rattle.row.specs.Rows.{partRow}
 use Rattle.eit.specs.Format.{EventFields, eventFormat}
 use Rattle.eit.specs.Given.{titleGiven, listGiven, eventGiven, eventsGiven}
-use Rattle.eit.specs.Values.{rowFor, OnesEvent}
+use Rattle.eit.specs.Values.{fieldsFor, rowFor, OnesEvent, OnesEit}
 use Rattle.eit.proofs.ThereLaws.{title-lies, descriptors-lie}
-use Rattle.section.specs.Sections.{sectionBy}
-use Rattle.section.specs.Encoding.{Section, encode, WellFormed, AllOnes, headerOf}
+use Rattle.section.specs.Encoding.{Section, encode, WellFormed, OnesHeader, headerOf}
 use Rattle.section.proofs.EncodingLaws.{encode-bytes, accepts}
 use Rattle.entry.specs.declared.Entry.the-variants.{Event}
-use Rattle.entry.specs.Entries.{entryCount, firstEntry}
 use Rattle.entry.specs.Records.{beginOf}
-use Rattle.entry.proofs.RecordLaws.{count-there, first-there, entries-stand}
+use Rattle.entry.proofs.RecordLaws.{entries-stand}
 use Rattle.rows.specs.declared.Row.the-variants as row
-use Rattle.rows.specs.Rows.{rowsFrom}
 use Rattle.section_laws.specs.Told.{rowsTold}
-use Rattle.section_laws.proofs.RowLaws.{rows-there}
+use Rattle.section_laws.proofs.TableLaws.{eit-reads}
 use Rattle.writing_laws.specs.RoundTrips.{givenOf, asBytes, EitWriter, Inside, GivesEit, WritesEit, RewritesEit}
 use Rattle.writing_laws.proofs.TestLaws.{header-back}
 
@@ -143,17 +139,9 @@ module _ (s : List ℕ) (end : ℕ) where
       subst (Inside (rowFor a e ++ rowsOf b es) s) k
       (inside-later (rowFor a e) (rowsOf b es) s (row-wide a e) (8 * i) (rows-in f b es (rest-stand eventFormat s end a e es g) i (omega arith)))
 
--- ---- the rows that are read of a section's bytes are those of its events
-own-rows : (y : Section Eit) → WellFormed Eit y → rowsFrom row.Event (encode y) (entryCount Event (encode y)) (firstEntry Event (encode y)) ≡ rowsTold row.Event y
-own-rows y o =
-    let n = count-there Event y o in
-    let a = first-there Event y o in
-    (λ i. rowsFrom row.Event (encode y) (n i) (a i))
-    ∙ rows-there (encode y) (encode-bytes Eit y o) row.Event (length (encode y) - 4) (beginOf Event y) (y .body .events) (entries-stand Event y o)
-
 -- ---- a section is written again
 module _ (write : EitWriter) (w : WritesEit write) where
-  pub eit-again : (y : Section Eit) → WellFormed Eit y → AllOnes Eit y → (room : ℕ) → length (encode y) ≤ room
+  pub eit-again : (y : Section Eit) → WellFormed Eit y → OnesHeader y × OnesEit (y .body) → (room : ℕ) → length (encode y) ≤ room
       → write (givenOf (headerOf y)) (length (y .body .events)) (rowsTold row.Event y) (encode y) room ≡ result (encode y)
   eit-again y o v room m =
       let es = y .body .events in
@@ -163,7 +151,7 @@ module _ (write : EitWriter) (w : WritesEit write) where
       let end = length (encode y) - 4 in
       let d : GivesEit (givenOf (headerOf y)) (length es) (rowsTold row.Event y) (encode y) y = record {
         good = o;
-        header = header-back Eit y v;
+        header = header-back Eit y (v .0);
         whole = rows-wide a es;
         inside = rows-in (encode y) end (omega arith) a es g;
         events = rows-give (encode y) end z a es g (v .1);
@@ -171,13 +159,7 @@ module _ (write : EitWriter) (w : WritesEit write) where
       w (givenOf (headerOf y)) (length es) (rowsTold row.Event y) (encode y) room z (encode y) .1 ((y, (d, refl)), m)
 
   pub rewrites-eit : RewritesEit write
-  rewrites-eit s h q u room m =
-      let y = u .0 in
-      let o = u .1 .0 .0 in
-      let e = u .1 .1 in
-      let n = ap length e in
-      let c = count-there Event y o in
-      let r = own-rows y o in
-      let p : h ≡ headerOf y = same-result h (headerOf y) (sym q ∙ ap (sectionBy (onlyOf Eit)) e ∙ accepts Eit y o) in
-      (λ i. write (givenOf (p i)) (entryCount Event (e i)) (rowsFrom row.Event (e i) (entryCount Event (e i)) (firstEntry Event (e i))) (e i) room)
-      ∙ (λ i. write (givenOf (headerOf y)) (c i) (r i) (encode y) room) ∙ eit-again y o (u .1 .0 .1) room (omega arith) ∙ ap result (sym e)
+  rewrites-eit y h f q r o room m =
+      let p : h ≡ headerOf y = same-result h (headerOf y) (sym q ∙ accepts Eit y (o .0)) in
+      let t : f ≡ fieldsFor (y .header .extension) (y .body) = same-result f _ (sym r ∙ eit-reads .tells y (o .0)) in
+      (λ i. write (givenOf (p i)) (t i .count) (rowsTold row.Event y) (encode y) room) ∙ eit-again y (o .0) (o .1) room m

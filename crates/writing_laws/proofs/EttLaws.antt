@@ -28,7 +28,7 @@ use Rattle.ett.specs.Values.{fieldsFor}
 use Rattle.ett.proofs.FieldLaws.{as-text-lies}
 use Rattle.section.specs.declared.write.Given.{Given}
 use Rattle.section.specs.Sections.{sectionBy}
-use Rattle.section.specs.Encoding.{Section, encode, WellFormed, AllOnes, headerOf}
+use Rattle.section.specs.Encoding.{Section, encode, WellFormed, OnesHeader, headerOf}
 use Rattle.section.proofs.EncodingLaws.{body-lies, body-ends, accepts}
 use Rattle.reading.specs.Etts.{fieldsOf}
 use Rattle.section_laws.proofs.TableLaws.{ett-reads}
@@ -132,7 +132,7 @@ module _ (write : EttWriter) (w : WritesEtt write) where
         text = ap (λ s. bytesIn s (ettTextPlace t)) (u .1 .1) ∙ subst (λ t. bytesIn (encode y) (ettTextPlace t) ≡ t) l (text-lies y (v .good));
       }
 
-  pub ett-again : (y : Section Ett) → WellFormed Ett y → AllOnes Ett y → (room : ℕ) → length (encode y) ≤ room
+  pub ett-again : (y : Section Ett) → WellFormed Ett y → OnesHeader y → (room : ℕ) → length (encode y) ≤ room
       → write (givenOf (headerOf y)) (y .body .etm) (structure .enc (y .body .text)) room ≡ result (encode y)
   ett-again y o a room m =
       w (givenOf (headerOf y)) (y .body .etm) (structure .enc (y .body .text)) room (structure .law (record {}) .bytes (y .body .text) (o .body .1)) (encode y) .1

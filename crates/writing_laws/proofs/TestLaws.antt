@@ -13,7 +13,7 @@ use Rattle.kind.specs.declared.Kind.{Kind}
 use Rattle.kind.specs.Kinds.{limitsOf}
 use Rattle.section.specs.declared.write.Given.{Given}
 use Rattle.section.specs.Bodies.{bodyFormat}
-use Rattle.section.specs.Encoding.{Section, lengthWith, encode, WellFormed, AllOnes, headerOf}
+use Rattle.section.specs.Encoding.{Section, lengthWith, encode, WellFormed, OnesHeader, headerOf}
 use Rattle.section.specs.Writing.{headerGiven, headerFits, numbersFit, lengthFits}
 use Rattle.section.proofs.EncodingLaws.{encoded-size}
 use Rattle.section.proofs.KindLaws.{known}
@@ -92,13 +92,13 @@ header-read k g y e = λ i. record {
   last = e i .last;
 }
 
-pub header-back : (k : Kind) (y : Section k) → AllOnes k y → y .header ≡ headerGiven (givenOf (headerOf y))
+pub header-back : (k : Kind) (y : Section k) → OnesHeader y → y .header ≡ headerGiven (givenOf (headerOf y))
 header-back k y o =
     let h = y .header in
     λ i. record {
-      r1 = o .0 .0 i;
+      r1 = o .0 i;
       extension = h .extension;
-      r2 = o .0 .1 i;
+      r2 = o .1 i;
       version = h .version;
       current = h .current;
       number = h .number;

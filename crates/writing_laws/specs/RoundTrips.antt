@@ -17,20 +17,19 @@ use Rattle.strings.specs.Strings.{structure, text}
 use Rattle.descriptor.specs.Descriptors.{descriptors, contentAdvisory}
 use Rattle.eit.specs.Format.{EventOf, EventFields, eventFormat}
 use Rattle.eit.specs.Given.{titleGiven, listGiven, eventGiven, eventsGiven}
-use Rattle.eit.specs.Values.{titlePlace, descriptorsPlace, eventFor}
+use Rattle.eit.specs.Values.{titlePlace, descriptorsPlace, eventFor, OnesEit}
+use Rattle.eit.specs.declared.table.Table.{Table as EitTable}
 use Rattle.ett.specs.declared.table.Table.{Table as EttTable}
 use Rattle.ett.specs.Format.{etmHead}
 use Rattle.section.specs.declared.header.Header.{Header}
 use Rattle.section.specs.declared.write.Given.{Given}
 use Rattle.section.specs.Sections.{sectionBy}
-use Rattle.section.specs.Encoding.{Section, encode, WellFormed, AllOnes}
+use Rattle.section.specs.Encoding.{Section, encode, WellFormed, OnesHeader}
 use Rattle.section.specs.Writing.{headerGiven}
-use Rattle.entry.specs.declared.Entry.the-variants.{Event}
-use Rattle.entry.specs.Entries.{entryCount, firstEntry}
 use Rattle.reading.specs.Eits as eits
 use Rattle.reading.specs.Etts as etts
 use Rattle.rows.specs.declared.Row.the-variants as row
-use Rattle.rows.specs.Rows.{rowsFrom}
+use Rattle.section_laws.specs.Told.{rowsTold}
 
 -- ---- headers
 -- what is read of a header that was given, and what is given to write one again that was read
@@ -45,9 +44,12 @@ givenOf h = record { extension = h .extension; version = h .version; current = h
 abbrev pub EncodingOf : {k : Kind} → (Section k → Type 0) → List ℕ → Type 0
 EncodingOf {k} Such s = (y : Section k) × (Such y × (s ≡ encode y))
 
--- the record is well formed, and its reserved bits are ones
-abbrev pub WithOnes : {k : Kind} → Section k → Type 0
-WithOnes {k} y = WellFormed k y × AllOnes k y
+-- the record is well formed, and its reserved bits are ones, but for those in texts and descriptor lists, which may be any
+abbrev pub EttWithOnes : Section Ett → Type 0
+EttWithOnes y = WellFormed Ett y × OnesHeader y
+
+abbrev pub EitWithOnes : Section Eit → Type 0
+EitWithOnes y = WellFormed Eit y × (OnesHeader y × OnesEit (y .body))
 
 -- ---- an ETT, given by a header, ETM_id and a text as bytes
 abbrev pub EttWriter : Type 0
@@ -82,7 +84,7 @@ ReadsBackEtt write =
 -- an accepted section whose reserved bits are ones is written again from what is read of it
 abbrev pub RewritesEtt : EttWriter → Type 0
 RewritesEtt write =
-    (s : List ℕ) (h : Header) (f : EttTable) → sectionBy (onlyOf Ett) s ≡ result h → etts.fieldsOf s ≡ result f → EncodingOf {k = Ett} WithOnes s
+    (s : List ℕ) (h : Header) (f : EttTable) → sectionBy (onlyOf Ett) s ≡ result h → etts.fieldsOf s ≡ result f → EncodingOf EttWithOnes s
     → (room : ℕ) → length s ≤ room → write (givenOf h) (f .«etm_id») (bytesIn s (f .text)) room ≡ result s
 
 -- ---- an EIT, given by a header, a count, and for each event a row of eight numbers with places in one list of bytes
@@ -131,11 +133,12 @@ ReadsBackEit write =
     (g : Given) (count : ℕ) (rows bytes : List ℕ) (room : ℕ) → Bytes bytes → (s : List ℕ) → write g count rows bytes room ≡ result s
     → ReadsAsEit g count rows bytes s
 
--- an accepted section whose reserved bits are ones is written again from its own rows and bytes
+-- an accepted section whose reserved bits are ones, which is `encode y` of its record y, is written again from what is read of it: the header, how many
+-- events there are, and their rows, which are what is told of y, with places in the section's own bytes
 abbrev pub RewritesEit : EitWriter → Type 0
 RewritesEit write =
-    (s : List ℕ) (h : Header) → sectionBy (onlyOf Eit) s ≡ result h → EncodingOf {k = Eit} WithOnes s → (room : ℕ) → length s ≤ room
-    → write (givenOf h) (entryCount Event s) (rowsFrom row.Event s (entryCount Event s) (firstEntry Event s)) s room ≡ result s
+    (y : Section Eit) (h : Header) (f : EitTable) → sectionBy (onlyOf Eit) (encode y) ≡ result h → eits.fieldsOf (encode y) ≡ result f → EitWithOnes y
+    → (room : ℕ) → length (encode y) ≤ room → write (givenOf h) (f .count) (rowsTold row.Event y) (encode y) room ≡ result (encode y)
 
 -- ---- what the two writers of a library promise
 pub record RoundTrips (ett : EttWriter) (eit : EitWriter) : Type 0 where

@@ -15,8 +15,8 @@ use Rattle.logic.specs.Choices.{pick}
 use Rattle.bytes_at.specs.Fields.{byteAt}
 use Rattle.bytes_at.specs.Walks.{skipTo, bitsTo, fieldsTo}
 use Rattle.bytes_at.proofs.WalkLaws.{to-is, never, skipped, skip-fits, bits-on, bits-done}
-use Rattle.format.specs.Lawful.{Walker, Lies, Lawful}
-use Rattle.format.specs.Repeats.{Bytes, total}
+use Rattle.format.specs.Lawful.{Walker, Lies, Lawful, total}
+use Rattle.format.specs.Repeats.{Bytes}
 
 -- ---- lists that stand in a section
 -- two lists of one length that begin one list are one

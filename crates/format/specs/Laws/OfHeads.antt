@@ -7,8 +7,8 @@ use lib.ListN.{length, take, drop, length-append}
 use Rattle.bytes_at.specs.declared.Walk.the-variants.{To}
 use Rattle.bytes_at.specs.Walks.{fieldsTo, then}
 use Rattle.bytes_at.proofs.WalkLaws.{then-to, then-inv}
-use Rattle.format.specs.Lawful.{Walker, Lies, Lawful}
-use Rattle.format.specs.Repeats.{Bytes, total}
+use Rattle.format.specs.Lawful.{Walker, Lies, Lawful, total}
+use Rattle.format.specs.Repeats.{Bytes}
 use Rattle.format.specs.Laws.OfBytes.{bytes-append, same-front, after, lies-at, lies-join, lies-split}
 use Rattle.format.specs.Laws.OfBytes.{part-bytes, part-length, part-lies, fields-fit, fields-took}
 

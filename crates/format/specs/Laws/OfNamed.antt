@@ -8,7 +8,8 @@ use lib.Seq.{take-all}
 use Rattle.bytes_at.specs.Bits.{bitsAt}
 use Rattle.format.specs.Lawful.{Lies}
 use Rattle.format.specs.Repeats.{Bytes}
-use Rattle.format.specs.Values.{Field, width, Vals, Fit, number, bytesOf, valsAt}
+use Rattle.format.specs.Values.{Field, width, Vals, Fit, number, bytesOf}
+use Rattle.format.specs.Heads.{valsAt}
 use Rattle.format.specs.Laws.OfValues.{number-lt, number-once, vals-fit, vals-number, lies-number, bytes-part}
 
 module _ (fs : List Field) (k : ℕ) (whole : width fs ≡ 8 * k) where

@@ -6,15 +6,15 @@ use native.Mathlib.Omega.{arith}
 use lib.ListN.{length}
 use lib.Seq.{take-all, take-length}
 use Rattle.bytes_at.specs.Fields.{byteAt, wordAt}
-use Rattle.format.specs.Lawful.{Lies}
-use Rattle.format.specs.Repeats.{Bytes, total}
+use Rattle.format.specs.Lawful.{Lies, total}
+use Rattle.format.specs.Repeats.{Bytes}
 use Rattle.format.specs.Laws.OfBytes.{lies-at, lies-split}
 use Rattle.format.specs.Formats.{Format, Reader, lastByte, lastWord, through, head}
 use Rattle.bytes_at.specs.Bits.{bitsAt}
 use Rattle.bytes_at.proofs.BitLaws.{bits-lt, bits-add, bits-low, byte-bits, word-bits}
-use Rattle.format.specs.Values.{Field, bits, width, steps, Vals, Fit, number, bytesOf, valsAt}
+use Rattle.format.specs.Values.{Field, bits, width, Vals, Fit, number, bytesOf, headBytes}
+use Rattle.format.specs.Heads.{steps, valsAt, Tells, OkTold}
 use Rattle.format.specs.Laws.OfValues.{pair-lt, pair-same, steps-width, number-lt, number-once, vals-fit, vals-number, bytes-length, bytes-bytes, lies-number, bytes-part}
-use Rattle.format.specs.Heads.{headBytes, Tells, OkTold}
 
 width-more : (fs : List Field) (n : ℕ) → width (fs ++ (bits n ∷ [])) ≡ width fs + n
 width-more [] n = omega arith

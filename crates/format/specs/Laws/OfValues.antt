@@ -9,12 +9,13 @@ use lib.Pow.{pow-pos, pow-add, high, low, split, shr-lt}
 use lib.ListN.{length, take, drop}
 use lib.Seq.{drop-cons}
 use Rattle.bytes_at.specs.Fields.{byteAt}
-use Rattle.format.specs.Lawful.{Lies}
-use Rattle.format.specs.Repeats.{Bytes, total}
+use Rattle.format.specs.Lawful.{Lies, total}
+use Rattle.format.specs.Repeats.{Bytes}
 use Rattle.format.specs.Laws.OfBytes.{lies-at, lies-split, lies-byte}
 use Rattle.bytes_at.specs.Bits.{bitsAt, fieldAt}
 use Rattle.bytes_at.proofs.BitLaws.{bits-lt, bits-add, byte-bits}
-use Rattle.format.specs.Values.{Field, bits, reserved, piece, bitsOf, width, stepsAfter, Vals, Fit, number, bytesOf, valsAt}
+use Rattle.format.specs.Values.{Field, bits, reserved, piece, bitsOf, width, Vals, Fit, number, bytesOf}
+use Rattle.format.specs.Heads.{stepsAfter, valsAt}
 
 -- ---- two numbers, one of them in the n low bits
 pub pair-lt : (a w n b : ℕ) → a < 2 ^ w → b < 2 ^ n → a * 2 ^ n + b < 2 ^ (w + n)

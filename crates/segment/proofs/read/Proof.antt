@@ -1,7 +1,7 @@
 -- `read` meets its contract.
 use native.Mathlib.Omega.{arith}
 use lib.ListN.{length}
-use Rattle.segment.specs.Bits.{bits}
+use Rattle.segment.specs.Bits.{allBits}
 use Rattle.segment.specs.Segment.{segmentText}
 use Rattle.segment.proofs.BitLaws.{length-bits}
 use borrow.Author.Needs.{needs}
@@ -15,7 +15,7 @@ returns : tie.Need-returns
 unfolding segmentText
 returns c =
     let a = c .before .before .before .before .args in
-    c .coded .ensures .by (length (bits (a .t2 .now))) (omega (arith, length-bits (a .t2 .now)))
+    c .coded .ensures .by (length (allBits (a .t2 .now))) (omega (arith, length-bits (a .t2 .now)))
 
 pub read-spec : {M : Type 1} → statement M
 read-spec = tie.close (tie.spec coded-requires returns)

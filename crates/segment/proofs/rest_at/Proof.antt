@@ -6,7 +6,7 @@ use borrow.Author.Needs.{needs}
 use lib.ListN.{length, getD, drop}
 use Rattle.annex_c.specs.Tree.{tree, walk}
 use Rattle.trees.specs.Which.{tableOf}
-use Rattle.segment.specs.Bits.{bits}
+use Rattle.segment.specs.Bits.{allBits}
 use Rattle.segment.proofs.BitLaws.{length-bits}
 use Rattle.steps.proofs.WalkLaws.{child-at, walk-early, walk-leaf, walk-node}
 use Rattle.segment.proofs.rest_at.Statement.{statement}
@@ -14,7 +14,7 @@ use Rattle.segment.proofs.rest_at.Tie as tie
 
 abbrev Inv-loop : tie.InvT-loop
 Inv-loop titles s from prior first total base i₀ node₀ i node =
-    (node < 128) × (from ≤ i) × (walk (tree (tableOf titles) prior) first (drop from (bits s)) ≡ walk (tree (tableOf titles) prior) node (drop i (bits s)))
+    (node < 128) × (from ≤ i) × (walk (tree (tableOf titles) prior) first (drop from (allBits s)) ≡ walk (tree (tableOf titles) prior) node (drop i (allBits s)))
 
 abbrev μ-loop : tie.MeasureT-loop
 μ-loop titles s from prior first total base i₀ node₀ i node = total - i
@@ -54,8 +54,8 @@ returns c =
     let q = c .before .before .before .before .loop in
     let a = c .before .before .before .before .before .before .before .args in
     let u = tree (tableOf (a .titles)) (a .prior) in
-    let bs = bits (a .s .now) in
-    let h : q .i < length (bits (a .s .now)) = omega (arith, length-bits (a .s .now)) in
+    let bs = allBits (a .s .now) in
+    let h : q .i < length (allBits (a .s .now)) = omega (arith, length-bits (a .s .now)) in
     let root = c .before .before .before .before .before .root-of in
     let v = child-at (tableOf (a .titles)) (a .prior) (q .node) (root .result) (c .before .before .bit-at .result) (getD bs (q .i) 0) (c .before .byte-of .result)
     (root .ensures .0) (c .before .before .bit-at .ensures .0) (c .before .byte-of .ensures .0) in
@@ -74,8 +74,8 @@ loop-again c =
     let q = c .before .before .before .before .loop in
     let a = c .before .before .before .before .before .before .before .args in
     let u = tree (tableOf (a .titles)) (a .prior) in
-    let bs = bits (a .s .now) in
-    let h : q .i < length (bits (a .s .now)) = omega (arith, length-bits (a .s .now)) in
+    let bs = allBits (a .s .now) in
+    let h : q .i < length (allBits (a .s .now)) = omega (arith, length-bits (a .s .now)) in
     let root = c .before .before .before .before .before .root-of in
     let v = child-at (tableOf (a .titles)) (a .prior) (q .node) (root .result) (c .before .before .bit-at .result) (getD bs (q .i) 0) (c .before .byte-of .result)
     (root .ensures .0) (c .before .before .bit-at .ensures .0) (c .before .byte-of .ensures .0) in
@@ -85,7 +85,7 @@ returns-2 : tie.Need-returns-2 Inv-loop μ-loop
 returns-2 c =
     let q = c .before .loop in
     let a = c .before .before .before .before .args in
-    q .inv .2 ∙ walk-early (tree (tableOf (a .titles)) (a .prior)) (bits (a .s .now)) (q .node) (q .i) (omega (arith, length-bits (a .s .now)))
+    q .inv .2 ∙ walk-early (tree (tableOf (a .titles)) (a .prior)) (allBits (a .s .now)) (q .node) (q .i) (omega (arith, length-bits (a .s .now)))
 
 pub rest-at-spec : {M : Type 1} → statement M
 rest-at-spec =

@@ -6,7 +6,7 @@ use borrow.Author.Tests.{eq-eqb, le-leb, lt-leb, ne-eqb}
 use borrow.Author.Needs.{needs}
 use Rattle.refusal.specs.Outcomes.{orRefuse}
 use Rattle.logic.proofs.LoopLaws.{any-no}
-use Rattle.shelf_state.specs.Records.{watchIn}
+use Rattle.shelf_state.specs.Searches.{watchIn}
 use Rattle.shelf.proofs.OwnerLaws.{owner-late}
 use Rattle.shelf.specs.Delivery.{ownerIn}
 use Rattle.shelf.proofs.delivery.find_owner.Statement.{statement}

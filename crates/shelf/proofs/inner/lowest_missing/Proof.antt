@@ -7,7 +7,8 @@ use borrow.Author.Count.{below-more, below-none}
 use borrow.Author.Needs.{needs}
 use Rattle.logic.proofs.LoopLaws.{any-no, any-yes}
 use Rattle.logic.specs.Loops.{any}
-use Rattle.shelf_state.specs.Records.{holds, placeIn}
+use Rattle.shelf_state.specs.Records.{holds}
+use Rattle.shelf_state.specs.Searches.{placeIn}
 use Rattle.shelf.proofs.InnerLaws.{missing-at, missing-none}
 use Rattle.shelf.proofs.inner.lowest_missing.Statement.{statement}
 use Rattle.shelf.proofs.inner.lowest_missing.Tie as tie

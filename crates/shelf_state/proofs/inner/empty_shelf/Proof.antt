@@ -1,6 +1,6 @@
 -- `empty_shelf` meets its contract.
 use borrow.Author.Needs.{needs}
-use Rattle.shelf_state.specs.Records.{emptyShelf}
+use Rattle.shelf_state.specs.Searches.{emptyShelf}
 use Rattle.shelf_state.proofs.inner.empty_shelf.Statement.{statement}
 use Rattle.shelf_state.proofs.inner.empty_shelf.Tie as tie
 

@@ -6,7 +6,8 @@ use native.Mathlib.Omega.{arith}
 use borrow.Author.Count.{below-more, below-none}
 use borrow.Author.Needs.{needs}
 use Rattle.logic.proofs.LoopLaws.{first-at, first-none}
-use Rattle.shelf_state.specs.Records.{holds, placeIn}
+use Rattle.shelf_state.specs.Records.{holds}
+use Rattle.shelf_state.specs.Searches.{placeIn}
 use Rattle.shelf_state.proofs.inner.find_place.Statement.{statement}
 use Rattle.shelf_state.proofs.inner.find_place.Tie as tie
 

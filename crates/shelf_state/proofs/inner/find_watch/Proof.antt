@@ -6,7 +6,8 @@ use native.Mathlib.Omega.{arith}
 use borrow.Author.Count.{below-more, below-none}
 use borrow.Author.Needs.{needs}
 use Rattle.logic.proofs.LoopLaws.{first-at, first-none}
-use Rattle.shelf_state.specs.Records.{isOf, watchIn}
+use Rattle.shelf_state.specs.Records.{isOf}
+use Rattle.shelf_state.specs.Searches.{watchIn}
 use Rattle.shelf_state.proofs.inner.find_watch.Statement.{statement}
 use Rattle.shelf_state.proofs.inner.find_watch.Tie as tie
 

@@ -6,7 +6,7 @@ use native.Mathlib.Omega.{arith}
 use borrow.Author.Count.{below-more, below-none}
 use borrow.Author.Needs.{needs}
 use Rattle.logic.proofs.LoopLaws.{first-at, first-none}
-use Rattle.shelf_state.specs.Records.{watchIn}
+use Rattle.shelf_state.specs.Searches.{watchIn}
 use Rattle.shelf_state.proofs.inner.free_record.Statement.{statement}
 use Rattle.shelf_state.proofs.inner.free_record.Tie as tie
 

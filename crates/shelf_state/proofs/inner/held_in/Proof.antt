@@ -6,7 +6,8 @@ use native.Mathlib.Omega.{arith}
 use borrow.Author.Needs.{needs}
 use Rattle.logic.proofs.LoopLaws.{at-end, sum-more, sum-none}
 use Rattle.logic.specs.Loops.{count, one}
-use Rattle.shelf_state.specs.Records.{placeIn, holdsFor}
+use Rattle.shelf_state.specs.Records.{holdsFor}
+use Rattle.shelf_state.specs.Searches.{placeIn}
 use Rattle.shelf_state.proofs.inner.held_in.Statement.{statement}
 use Rattle.shelf_state.proofs.inner.held_in.Tie as tie
 

@@ -4,8 +4,8 @@ use mathlib.Core.Path.{_≡_}
 use native.Mathlib.Omega.{arith}
 use borrow.Author.Needs.{needs}
 use Rattle.logic.proofs.LoopLaws.{is-leb, no-leb, sum-grows, sum-more, sum-none}
-use Rattle.shelf_state.specs.Records.{watchIn}
-use Rattle.shelf_state.specs.Rules.{promisedIn, quotaOf}
+use Rattle.shelf_state.specs.Searches.{watchIn, promisedIn}
+use Rattle.shelf_state.specs.Rules.{quotaOf}
 use Rattle.shelf_state.proofs.inner.room.Statement.{statement}
 use Rattle.shelf_state.proofs.inner.room.Tie as tie
 
