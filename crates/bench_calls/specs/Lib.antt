@@ -1,1 +1,2 @@
+-- What is measured, told as numbers.
 pub mod Told

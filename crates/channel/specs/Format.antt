@@ -12,6 +12,7 @@ use Rattle.channel.specs.declared.channel.Name.{Name}
 use Rattle.channel.specs.declared.channel.Tuning.{Tuning}
 use Rattle.channel.specs.declared.channel.Service.{Service}
 
+-- ---- the fields
 -- short_name 7×16; r 4, major 10, minor 10, modulation 8, carrier 32, channel_TSID 16, program_number 16; ETM_location 2,
 -- access_controlled 1, hidden 1, the six bits, service_type 6, source_id 16
 abbrev pub channelHead : List Field
@@ -28,6 +29,7 @@ pub record ChannelFields : Type 0 where
   pub r2 : ℕ
   pub descs : descriptors noTag .Val
 
+-- ---- the record and its fields' numbers, there and back
 -- six numbers before others
 abbrev pub six : {A : Type 0} → ℕ → ℕ → ℕ → ℕ → ℕ → ℕ → A → ℕ × (ℕ × (ℕ × (ℕ × (ℕ × (ℕ × A)))))
 six a b c d e f x = (a, (b, (c, (d, (e, (f, x))))))
@@ -73,6 +75,7 @@ serviceIn v = let w = v .1 .1 .1 .1 .1 .1 .1 .1 .1 .1 .1 .1 .1 .1 in record {
   «source_id» = w .1 .1 .1 .1 .1 .0;
 }
 
+-- ---- the format
 abbrev pub channelFormat : Format One
 channelFormat =
     under (seq (named channelHead 30 refl) (sized10 (descriptors noTag))) {Y = ChannelFields}

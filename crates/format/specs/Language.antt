@@ -1,8 +1,8 @@
 -- The language in which every table is defined once, word by word: of each word the values of its formats, which of them are well formed, and their bytes.
 -- A value of a format is one of `.Val`, it is well formed where `.Ok` holds of it, and its bytes are `.enc`. This page says all that is to be known of a
 -- word. What a format carries beside, which is how code walks through its bytes with the proof that the walk accepts exactly those of well-formed
--- values, stands in Formats, Named, Heads and Told. The arguments w, p, q, r, t, i and b of words are proofs, and readers for the walk, and can be passed
--- over (t of `choice` is its test). The page is proved (law `language`).
+-- values, stands in Formats, Named, Heads, Told and Lawful. The arguments w, p, q, r, t, i and b of words are for proofs and for the walk, and can be
+-- passed over (t of `choice` is its test). The page is proved (law `language`).
 use Prim.Native.Nat.{ℕ, suc, _+_, _*_, _^_, _<_}
 use mathlib.Core.Path.{_≡_, refl}
 use mathlib.Core.Logic.{_↔_}

@@ -1,3 +1,4 @@
+-- The laws that formats carry, from the bottom up.
 pub mod OfBytes
 pub mod OfHeads
 pub mod OfContainers

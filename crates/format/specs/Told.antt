@@ -10,7 +10,7 @@ use lib.ListN.{length}
 use Rattle.format.specs.Repeats.{Bytes, One}
 use Rattle.format.specs.Formats.{Format, Filling, Reader, Recast, lastByte, lastWord, through, head, raw, filled, times, oneOrMore, via}
 use Rattle.bytes_at.proofs.BitLaws.{word-bits}
-use Rattle.format.specs.Values.{Field, bits, reserved, width, Vals, number, headBytes}
+use Rattle.format.specs.Values.{Field, bits, reserved, width, Vals, headBytes}
 use Rattle.format.specs.Heads.{steps, valsAt, Tells, OkTold}
 use Rattle.format.specs.Laws.OfValues.{bytes-length, bytes-bytes}
 use Rattle.format.specs.Laws.OfTold.{steps-whole, head-below, told-good, told-onto, told-once, last-tells, low16-tells, low8-tells}

@@ -1,1 +1,2 @@
+-- The statement: no number is too large to be told.
 pub mod Whole

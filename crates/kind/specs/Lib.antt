@@ -1,1 +1,2 @@
+-- The definitions: the table of kinds.
 pub mod Kinds

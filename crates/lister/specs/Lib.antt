@@ -1,1 +1,2 @@
+-- What a read means for the input.
 pub mod Reading

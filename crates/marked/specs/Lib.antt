@@ -1,2 +1,3 @@
+-- The marked examples: their bytes, and what is said of each.
 pub mod Sections
 pub mod Marked

@@ -3,6 +3,7 @@ use Prim.Native.Nat.{ℕ, zero, suc, _+_}
 use mathlib.Core.List.{List, [], _∷_, _++_}
 use lib.ListN.{replicate}
 
+-- ---- what they are made of
 -- table_id, section_length in its two parts, section_number, last_section_number, body; the extension is 7, the version 3,
 -- and the section is current
 abbrev pub unfinished : ℕ → ℕ → ℕ → ℕ → ℕ → List ℕ → List ℕ
@@ -17,6 +18,7 @@ abbrev pub manyDescriptors : ℕ → ℕ → List ℕ
 manyDescriptors zero n = opaque n
 manyDescriptors (suc k) n = opaque 255 ++ manyDescriptors k n
 
+-- ---- lengths at their limits, P1 to P7
 -- an EIT without events, and without its count
 abbrev pub eit11 : ℕ → ℕ → List ℕ
 eit11 number last = unfinished 0xCB 0 11 number last (0 ∷ [])
@@ -61,6 +63,7 @@ ett15 = unfinished 0xCC 0 15 0 0 (0 ∷ 0 ∷ 0 ∷ 1 ∷ 0 ∷ [])
 abbrev pub ett14 : List ℕ
 ett14 = unfinished 0xCC 0 14 0 0 (0 ∷ 0 ∷ 0 ∷ 1 ∷ [])
 
+-- ---- titles and texts
 -- "Tea" in English, in one plain segment; an event with that title; an EIT with that event
 abbrev pub teaText : List ℕ
 teaText = 1 ∷ 101 ∷ 110 ∷ 103 ∷ 1 ∷ 0 ∷ 0 ∷ 3 ∷ 84 ∷ 101 ∷ 97 ∷ []

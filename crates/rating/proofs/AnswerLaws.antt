@@ -1,6 +1,6 @@
 -- What holds of every answer to a question.
 use Prim.Native.Nat.{ℕ, zero, suc, _+_, _-_, _%_, _≤_, _<_}
-use mathlib.Core.Path.{_≡_, refl, sym, ap, subst, _∙_}
+use mathlib.Core.Path.{_≡_, refl, subst}
 use mathlib.Core.Logic.{⊎-elim}
 use mathlib.Core.List.{List}
 use mathlib.Core.Option.{Option, none, some}
@@ -14,56 +14,9 @@ use Rattle.bytes_at.specs.Fields.{byteAt}
 use Rattle.logic.specs.Choices.{pick, ifEq}
 use Rattle.logic.proofs.ChoiceLaws.{lt-no}
 use Rattle.format.specs.Repeats.{Bytes}
-use Rattle.rating.specs.declared.Rating.{Rating}
-use Rattle.rating.specs.declared.Rating.the-variants.{NoAdvisory, RegionAbsent, DimensionAbsent, Value}
-use Rattle.rating.specs.declared.SoughtDescriptor.{SoughtDescriptor}
-use Rattle.rating.specs.declared.SoughtDescriptor.the-variants as found
-use Rattle.rating.specs.declared.SoughtText.{SoughtText}
-use Rattle.rating.specs.declared.SoughtText.the-variants as part
-use Rattle.rating.specs.Ratings.{ratedOf, soughtDescriptor, soughtText, descriptorSize, regionSize, firstMatch, advisoryIn, regionIn, ratedByRegion, ratingIn, regionTextAt, textIn}
-use Rattle.rating.specs.Values.{Rated, noAdvisory, regionAbsent, dimensionAbsent, value, Descriptor}
+use Rattle.rating.specs.Ratings.{descriptorSize, regionSize, firstMatch, advisoryIn, regionIn, ratedByRegion, ratingIn, regionTextAt, textIn}
+use Rattle.rating.specs.Values.{Rated, noAdvisory, regionAbsent, dimensionAbsent, value}
 use Rattle.rating.proofs.FirstLaws.{first-past}
-
--- ---- an answer's meaning is that of one answer only
-once-by : {A B : Type 0} (f : A → B) (g : B → A) → ((a : A) → g (f a) ≡ a) → (a b : A) → f a ≡ f b → a ≡ b
-once-by f g back a b e = sym (back a) ∙ ap g e ∙ back b
-
-abbrev ratingOf : Rated → Rating
-ratingOf noAdvisory = NoAdvisory
-ratingOf regionAbsent = RegionAbsent
-ratingOf dimensionAbsent = DimensionAbsent
-ratingOf (value v) = Value v
-
-rating-back : (r : Rating) → ratingOf (ratedOf r) ≡ r
-rating-back NoAdvisory = refl
-rating-back RegionAbsent = refl
-rating-back DimensionAbsent = refl
-rating-back (Value v) = refl
-
-pub rated-once : (a b : Rating) → ratedOf a ≡ ratedOf b → a ≡ b
-rated-once = once-by ratedOf ratingOf rating-back
-
-abbrev descriptorOf : Option Descriptor → SoughtDescriptor
-descriptorOf (some d) = found.Is (d .tag) (d .start) (d .size)
-descriptorOf none = found.Nothing
-
-found-back : (r : SoughtDescriptor) → descriptorOf (soughtDescriptor r) ≡ r
-found-back (found.Is t a n) = refl
-found-back found.Nothing = refl
-
-pub found-once : (a b : SoughtDescriptor) → soughtDescriptor a ≡ soughtDescriptor b → a ≡ b
-found-once = once-by soughtDescriptor descriptorOf found-back
-
-abbrev placeOf : Option Part → SoughtText
-placeOf (some p) = part.Is (p .start) (p .length)
-placeOf none = part.Nothing
-
-part-back : (r : SoughtText) → placeOf (soughtText r) ≡ r
-part-back (part.Is a n) = refl
-part-back part.Nothing = refl
-
-pub part-once : (a b : SoughtText) → soughtText a ≡ soughtText b → a ≡ b
-part-once = once-by soughtText placeOf part-back
 
 -- ---- what a search for x answers
 either : {A : Type 0} (P : A → Type 0) (t : Bool) (a b : A) → (t ≡ true → P a) → P b → P (pick t a b)

@@ -1,1 +1,2 @@
+-- The definitions: the frame of a record.
 pub mod Records

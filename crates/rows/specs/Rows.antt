@@ -20,6 +20,7 @@ use Rattle.rows.specs.declared.Row.the-variants.{Table, Channel, Dimensi
 use Rattle.rows.specs.declared.RowsAnswer.{RowsAnswer}
 use Rattle.rows.specs.declared.RowsAnswer.the-variants.{Refused, Are}
 
+-- ---- one row
 -- a row for each of the entries that tables repeat (a type of its own, which the call names)
 abbrev pub entryFor : Row → Entry
 entryFor Table = entries.Table
@@ -47,6 +48,7 @@ nextAt Channel s a = channelEnd s a
 nextAt Dimension s a = dimensionEnd s a
 nextAt Event s a = eventEnd s a
 
+-- ---- all rows
 -- the rows of n entries, the first of which begins at a
 unfoldable pub rowsFrom : Row → List ℕ → ℕ → ℕ → List ℕ
 rowsFrom r s zero a = []
@@ -68,6 +70,7 @@ unfoldable pub withRows : Row → List ℕ → Outcome ℕ → List ℕ → List
 withRows r s (refused k) l = l
 withRows r s (result n) l = sets l 0 (rowsFrom r s n (firstEntry (entryFor r) s))
 
+-- ---- what the code's answer means
 abbrev pub rowsOutcome : RowsAnswer → Outcome ℕ
 rowsOutcome (Refused k) = refused (numberOf k)
 rowsOutcome (Are n) = result n

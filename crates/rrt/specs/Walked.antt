@@ -3,7 +3,7 @@ use Rattle.format.specs.Formats.{Format, Filling, seq, exact}
 use Rattle.format.specs.Repeats.{One}
 use Rattle.format.specs.Told.{notNone}
 use Rattle.strings.specs.Strings.{sizedText}
-use Rattle.descriptor.specs.Descriptors.{descriptors, noTag}
+use Rattle.descriptor.specs.Descriptors.{noTag}
 use Rattle.descriptor.specs.Places.{list10}
 use Rattle.rrt.specs.Format.{valueFormat, dimensionFormat}
 

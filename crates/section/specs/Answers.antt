@@ -1,4 +1,4 @@
--- What the code's answers mean; and the same tests with the offset of the field to blame, where the body fails.
+-- What the code's answers mean; and the tests of SCOPE 6, numbers 1 to 9, once more, with the offset of the field to blame where the body fails.
 use Prim.Native.Nat.{ℕ}
 use mathlib.Core.List.{List}
 use Rattle.bytes_at.specs.declared.Walk.{Walk}

@@ -5,7 +5,7 @@ use mathlib.Core.Option.{Option, none, some}
 use lib.ListN.{length}
 use lib.Seq.{sets}
 use Rattle.part.specs.declared.Part.{Part}
-use Rattle.refusal.specs.Outcomes.{Outcome, refused, result, after, orNone}
+use Rattle.refusal.specs.Outcomes.{Outcome, refused, result, orNone}
 use Rattle.kind.specs.declared.Kind.the-variants.{Mgt, Tvct, Rrt, Eit, Ett}
 use Rattle.kind.specs.Kinds.{limitsOf}
 use Rattle.format.specs.Listed.{allOf}

@@ -1,7 +1,6 @@
 -- SCOPE 2.3 to 2.7 and 4.2: the texts that a section has, and where each stands: 1 to 9, then 13 where its entry is not there.
 use Prim.Native.Nat.{ℕ, _-_}
 use mathlib.Core.List.{List}
-use mathlib.Core.Option.{Option, none, some}
 use lib.ListN.{length}
 use Rattle.refusal.specs.Numbers.{numberOf}
 use Rattle.refusal.specs.Outcomes.{Outcome, refused, result, after, orNone}

@@ -14,6 +14,7 @@ use Rattle.segment.specs.declared.ReadSymbol.the-variants.{Symbol, Early
 use Rattle.segment.specs.declared.Judged.{Judged}
 use Rattle.segment.specs.declared.Judged.the-variants.{Units, Refused}
 
+-- ---- a text as its judge and its reader see it
 -- the units of a text, as far as it goes
 unfoldable pub units : Text → List ℕ
 units done = []
@@ -26,6 +27,7 @@ judgedText n done = Units n
 judgedText n (stopped k) = Refused k
 judgedText n (unit u x) = judgedText (n + 1) x
 
+-- ---- finding a symbol
 -- w is the eight bits from `at` on, with 0 for each past the end
 pub record Window (s : List ℕ) (at w : ℕ) : Type 0 where
   pub bit : (j : ℕ) → j < 8 → w / 2 ^ (7 - j) % 2 ≡ getD (allBits s) (at + j) 0
@@ -46,6 +48,7 @@ abbrev pub Finds : (ℕ → List ℕ → Reading) → List ℕ → ℕ → ℕ �
 Finds read s at p Early = read p (drop at (allBits s)) ≡ early
 Finds read s at p (Symbol u next) = SymbolAt read s at p u next
 
+-- ---- the pair that hands over
 -- the place after the last unit, where n units stand before, or 4096 and a refusal's number
 unfoldable pub answer : ℕ → Text → ℕ
 answer n done = n
@@ -71,6 +74,7 @@ pub record Room (s : List ℕ) (at n : ℕ) : Type 0 where
   pub inside : at ≤ 8 * length s
   pub space : n + 8 * length s ≤ 2040 + at
 
+-- ---- writing
 -- the output l with the units of x stored from place n on, those that have room; a refusal stores none
 unfoldable pub written : List ℕ → ℕ → Text → List ℕ
 written l n x = elim (judgedText 0 x) [ Units k ↦ sets l n (units x) | Refused k ↦ l ]

@@ -1,5 +1,5 @@
--- SCOPE 5.2, 5.5 and 5.6, for the calls: the record of a key's watch, the place of a section, the lowest that are free, and a shelf with one
--- of its records changed; and an empty shelf.
+-- SCOPE 5.1, 5.2, 5.5 and 5.7, for the calls: the record of a key's watch, the place of a section, and the lowest that are free; a shelf with a record
+-- or a place changed, or without a watch's sections; and an empty shelf.
 use Prim.Native.Nat.{ℕ}
 use mathlib.Core.Bool.{Bool, not}
 use mathlib.Core.List.{List}
@@ -68,7 +68,7 @@ firstFree ps k = first k (λ i. not (placeIn ps i .used))
 abbrev pub freePlace : Shelf → ℕ
 freePlace s = firstFree (s .places) (s .count)
 
--- ---- changes of one record
+-- ---- changes
 abbrev pub setWatch : Shelf → ℕ → Watch → Shelf
 setWatch s i w = record { watches = set (s .watches) i w; records = s .records; places = s .places; count = s .count }
 

@@ -21,6 +21,7 @@ use Rattle.bytes_at.specs.Walks.{standing}
 use Rattle.text.specs.Values.{joined}
 use Rattle.refusal.specs.Outputs.{counted}
 
+-- ---- plain bytes
 -- plain bytes as units: two a unit, or one
 unfoldable pub plainPairs : Bool → List ℕ → List ℕ
 plainPairs true s = pairs s
@@ -46,6 +47,7 @@ joinedOf told s end (suc m) at = after (standing (walks segment s end at)) (λ b
 abbrev pub joinedPlain : List ℕ → ℕ → ℕ → ℕ → Outcome (List ℕ)
 joinedPlain s end m at = joinedOf (plainUnits s) s end m at
 
+-- ---- what is stored
 -- the output l with the units of x stored from place n on, those that have room; a refusal stores none
 unfoldable pub storedUnits : List ℕ → ℕ → Outcome (List ℕ) → List ℕ
 storedUnits l n (refused k) = l

@@ -1,4 +1,4 @@
--- What the answers of the code mean: the number of SCOPE 6, or the bytes of the section that was written.
+-- What the answers of the code mean: the number of SCOPE 6, or how many bytes the section that was written has.
 use Prim.Native.Nat.{ℕ}
 use Rattle.refusal.specs.Numbers.{numberOf}
 use Rattle.refusal.specs.Outcomes.{Outcome, refused, result}

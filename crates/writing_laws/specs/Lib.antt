@@ -1,1 +1,2 @@
+-- The statements about what is written.
 pub mod RoundTrips

@@ -4,7 +4,7 @@ use mathlib.Core.Path.{_≡_}
 use mathlib.Core.List.{List}
 use native.Mathlib.Omega.{arith}
 use lib.ListN.{length, length-append}
-use Rattle.format.specs.Formats.{Format, Reader, lastByte, Full, head, times}
+use Rattle.format.specs.Formats.{Format, Reader, lastByte, Full, times}
 use Rattle.format.specs.Repeats.{One}
 use Rattle.format.specs.Values.{Field, width, Vals, number, headBytes}
 use Rattle.format.specs.Laws.OfValues.{bytes-length}

@@ -15,7 +15,7 @@ use Rattle.format.specs.Laws.OfBytes.{part-bytes, part-length, part-lies
 pair-is : {X Y : Type 0} (x y : X × Y) → x .0 ≡ y .0 → x .1 ≡ y .1 → x ≡ y
 pair-is x y e f = λ i. (e i, f i)
 
--- one after the other
+-- ---- one after the other
 module _ {X Y : Type 0} {A B : Walker} {OkA : X → Type 0} {OkB : Y → Type 0} {encA : X → List ℕ} {encB : Y → List ℕ}
     (a : Lawful A OkA encA) (b : Lawful B OkB encB) where
   pub seq-law : Lawful {X = X × Y} (λ s end at. then (A s end at) (B s end))
@@ -54,7 +54,7 @@ module _ {X Y : Type 0} {A B : Walker} {OkA : X → Type 0} {OkB : Y → Type 0}
     bytes = λ x o. bytes-append (encA (x .0)) (encB (x .1)) (a .bytes (x .0) (o .0)) (b .bytes (x .1) (o .1));
   }
 
--- a head of k bytes, and a body of which the head tells c; the walk reads c from behind the head
+-- ---- a head of k bytes, and a body of which the head tells c; the walk reads c from behind the head
 module _ {C X : Type 0} {B : C → Walker} {Ok : C → X → Type 0} {enc : X → List ℕ} (ns : List ℕ) (k : ℕ) (whole : total ns ≡ 8 * k)
     (c : List ℕ → ℕ → C) (same : (s : List ℕ) (at : ℕ) (h : List ℕ) → length h ≡ k → Lies h s at → c s (at + k) ≡ c h k)
     (body : (n : C) → Lawful (B n) (Ok n) enc) where
@@ -99,7 +99,7 @@ module _ {C X : Type 0} {B : C → Walker} {Ok : C → X → Type 0} {enc : X �
     bytes = λ x o. bytes-append (x .0) (enc (x .1)) (o .0 .1) ((body (c (x .0) k)) .bytes (x .1) (o .1));
   }
 
--- the same bytes, and other values: `to` gives the value that a new one stands for
+-- ---- the same bytes, and other values: `to` gives the value that a new one stands for
 module _ {X Y : Type 0} {W : Walker} {Ok : X → Type 0} {enc : X → List ℕ} {OkY : Y → Type 0} (a : Lawful W Ok enc) (to : Y → X)
     (good : (y : Y) → OkY y → Ok (to y)) (onto : (x : X) → Ok x → (y : Y) × (OkY y × (to y ≡ x)))
     (inj : (y z : Y) → OkY y → OkY z → to y ≡ to z → y ≡ z) where

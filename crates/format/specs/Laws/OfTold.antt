@@ -9,7 +9,7 @@ use Rattle.bytes_at.specs.Fields.{byteAt, wordAt}
 use Rattle.format.specs.Lawful.{Lies, total}
 use Rattle.format.specs.Repeats.{Bytes}
 use Rattle.format.specs.Laws.OfBytes.{lies-at, lies-split}
-use Rattle.format.specs.Formats.{Format, Reader, lastByte, lastWord, through, head}
+use Rattle.format.specs.Formats.{Format, Reader, lastByte, lastWord, through}
 use Rattle.bytes_at.specs.Bits.{bitsAt}
 use Rattle.bytes_at.proofs.BitLaws.{bits-lt, bits-add, bits-low, byte-bits, word-bits}
 use Rattle.format.specs.Values.{Field, bits, width, Vals, Fit, number, bytesOf, headBytes}

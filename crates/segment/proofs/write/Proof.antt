@@ -4,7 +4,7 @@ use lib.Seq.{sets}
 use Rattle.trees.specs.Which.{tableOf}
 use Rattle.annex_c.specs.Tree.{walked}
 use Rattle.segment.specs.Segment.{segmentText}
-use Rattle.segment.proofs.TextLaws.{written-units, written-refused}
+use Rattle.segment.proofs.TextLaws.{written-keeps, written-units}
 use Rattle.segment.proofs.WholeLaws.{whole-units, whole-refused, whole-length, whole-stored}
 use borrow.Author.Needs.{needs}
 use Rattle.segment.proofs.write.Statement.{statement}
@@ -43,7 +43,7 @@ returns-2 c =
     let a = c .before .before .before .before .before .before .args in
     let q = c .before .coded in
     let j = whole-refused (c .before .before .before .before .before .before .pre) (q .ensures) (c .if1 .left) in
-    (j, sym (written-refused (a .out .now) (a .n) 11 (segmentText (walked (tableOf (a .titles))) (a .t2 .now)) (sym j)))
+    (j, sym (written-keeps (a .out .now) (a .n) (segmentText (walked (tableOf (a .titles))) (a .t2 .now)) 11 (sym j)))
 
 pub write-spec : {M : Type 1} → statement M
 write-spec =
