@@ -1,11 +1,12 @@
 # make test: the gate. Proves and runs everything from nothing, then the comparisons.
 # make check: proves what changed.  make fmt: lays the sources out.
+# make core: puts the definitions that are to be believed into target/core.txt, in reading order.
 # make list: builds the lister and lists FILE.
 # make lib: builds target/guide/ARCH/libguide.a, for this machine or for ARCH=x86_64|aarch64.
 # make install PREFIX=.. DESTDIR=..: library, header, pkg-config file, lister and man pages.  make uninstall: takes them away.
 # make compare: compares library and reference for SECONDS.
 # make speed: measures.  make peers: measures beside other libraries.
-.PHONY: test check fmt compare speed peers list lib install uninstall
+.PHONY: test check fmt core compare speed peers list lib install uninstall
 SHELL := /bin/bash
 FILE ?= examples/two_eits.bin
 ARCH ?= $(shell uname -m)
@@ -20,6 +21,11 @@ check:
 
 fmt:
 	@rt fmt
+
+core:
+	@mkdir -p target
+	@python3 tools/core.py > target/core.txt
+	@echo target/core.txt
 
 list:
 	@[ -f "$(FILE)" ] || { echo "make list: there is no file '$(FILE)'"; exit 1; }

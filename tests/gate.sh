@@ -31,6 +31,9 @@ done
 compare layout rt fmt --check
 compare scope python3 tests/scope.py
 compare rules python3 tests/rules.py
+compare core sh -c 'python3 tools/core.py > target/core.txt'
+compare promises python3 tests/promises.py
+compare edits python3 tests/edits.py
 compare examples python3 examples/make.py --check
 compare lister_two_eits listed_as examples/two_eits
 compare lister_all_kinds listed_as examples/all_kinds

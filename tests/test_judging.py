@@ -17,7 +17,7 @@ vectors = []  # (asked, bytes, answer)
 
 
 def add(meant, s, asked=0):
-    """`meant`: the refusal's number, or 0 for a section that passes."""
+    """`meant`: the refusal's number, ("9", the offset to blame), or 0 for a section that passes."""
     said = section_outcome(s, asked)
     assert said == meant or meant == 0 and said[0] == s[0], (meant, said, s[:16].hex())
     vectors.append((asked, s, said))
@@ -126,6 +126,21 @@ add(6, s[:300] + b"\1" + s[301:])
 # ---- 7
 for protocol in (1, 2, 128, 255):
     add(7, of_length(RRT, 40, protocol=protocol))
+
+# ---- from outside: what the writers of GStreamer 1.22 make
+# an MGT of no tables
+add(0, bytes.fromhex("c7f00e0000c10000000000f000719e42ac"))
+# an MGT of two tables, which lacks the number of bytes of each: what stands for the first one's descriptors_length, byte 20, says 3,329
+add(("9", 20), bytes.fromhex("c7f0240000c100000000020101fd01e4f0000101fd01e4f000f00003546561f003800081826f9b"))
+# an RRT of one dimension and two values, with a byte too many behind the descriptors, byte 62
+add(("9", 62), bytes.fromhex(
+    "caf040ff01c100000001000100e20901656e6701000001300b01656e6701000003616c6c0901656e670100000137"
+    "0d01656e6701000005736576656efc003e45180250"))
+# the same with names, where the dimension's has bytes of the region's: a text of one byte, which counts 101 strings and has none
+add(("9", 31), bytes.fromhex(
+    "caf05bff01c10000001201656e670100000a4f757220726567696f6e0b01656e670100000a4f757220726567696f"
+    "6ee20901656e6701000001300b01656e6701000003616c6c0901656e6701000001370d01656e6701000005737e9a"
+    "4309"))
 
 # ---- neighbours: a section that fails both tests has the lower number
 add(1, b"\x00\x00")
