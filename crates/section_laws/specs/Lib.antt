@@ -4,4 +4,5 @@ pub mod Told
 pub mod Titled
 pub mod Accepted
 pub mod Ours
+pub mod Parts
 pub mod Samples
