@@ -33,9 +33,10 @@ use Rattle.section_text.specs.declared.field.Which.{Which}
 use Rattle.section_text.specs.declared.field.Which.the-variants.{Title, Advisory, Extended, RegionName, DimensionName, ShortText, LongText}
 use Rattle.section_text.specs.Fields.{kindFor}
 use Rattle.titles.specs.Titles as titles
-use Rattle.section_laws.specs.Told.{mgtTold, definedTold, tvctTold, channelTold, rrtTold, dimensionTold, valueTold, eitTold, eventTold, ratingTold, descriptorTold, placeTold, ettTold, rowsTold, countTold, storedRows, numbered, valueRowsTold, valuesIn, valueCountTold, stringsTold}
+use Rattle.section_laws.specs.Told.{mgtTold, definedTold, tvctTold, channelTold, rrtTold, dimensionTold, valueTold, eitTold, eventTold, ratingTold, descriptorTold, placeTold, ettTold, stringsTold}
+use Rattle.section_laws.specs.Accepted.{Judges, JudgesAll, Reads, ReadsText, Library, Keeps}
 use Rattle.section_laws.specs.Titled.{sortTold, titleUnits, titleRowsTold, titleRows, titlesTold}
-use Rattle.section_laws.specs.Accepted.{Judges, JudgesAll, Reads, Stores, ReadsText, Library, Keeps}
+use Rattle.section_laws.specs.Rows.{rowsTold, countTold, storedRows, numbered, valueRowsTold, valuesIn, valueCountTold, Stores}
 use Rattle.section_laws.specs.Samples.{nothing, noStrings, teaString, tea, advised, bare, full, firstAsked}
 use Rattle.section_laws.proofs.SampleLaws.{bare-good, full-good, tea-ok}
 
