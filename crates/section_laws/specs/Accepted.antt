@@ -1,6 +1,7 @@
 -- SCOPE 12.4 and 12.6: a section is accepted exactly when it is the encoding of a well-formed record, which is one only, and every
--- reader answers what is told of that record. Each statement is of any judge and any reader: this library's keep them, and none
--- whose answer is always the same keeps its own (proofs/).
+-- reader answers what is told of that record. The statements of a judge are of any judge; those of a reader are of any reader beside
+-- this library's judge, `sectionBy`, which keeps its own. This library's readers keep theirs too, and no judge and no reader whose answer
+-- is always the same does, nor a judge that refuses everything (proofs/).
 use Prim.Native.Nat.{ℕ}
 use mathlib.Core.Path.{_≡_}
 use mathlib.Core.Logic.{_↔_}
