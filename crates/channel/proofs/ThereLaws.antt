@@ -13,6 +13,7 @@ use Rattle.format.specs.Heads.{valsAt}
 use Rattle.format.specs.Laws.OfNamed.{vals-there}
 use Rattle.format.specs.Told.{sized10}
 use Rattle.descriptor.specs.Descriptors.{descriptors, noTag}
+use Rattle.descriptor.specs.Places.{listAt}
 use Rattle.descriptor.proofs.ListLaws.{list10-there}
 use Rattle.row.specs.Rows.{partRow}
 use Rattle.channel.specs.Format.{channelHead, headOf, nameIn, tuningIn, serviceIn, ChannelFields, channelFormat}
@@ -32,9 +33,17 @@ module _ (s : List ℕ) (z : Bytes s) (a : ℕ) (x : ChannelFields) (o : channel
   head-there : valsAt channelHead s a 0 ≡ headOf x
   head-there = vals-there channelHead 30 refl s a (headOf x) (o .0) (head-and-rest .0)
 
+  -- its descriptors, with their length before them
+  descriptors-placed : (listAt 1024 s (behind channelHead a) ≡ descriptorsPlace a x)
+      × Lies (descriptors noTag .enc (x .descs)) s (descriptorsPlace a x .start)
+  descriptors-placed = list10-there noTag s (behind channelHead a) z (x .r2) (x .descs) (o .1) (head-and-rest .1)
+
+  pub descriptors-lie : Lies (descriptors noTag .enc (x .descs)) s (descriptorsPlace a x .start)
+  descriptors-lie = descriptors-placed .1
+
   descriptors-there : descriptorsAt s a ≡ descriptorsPlace a x
   unfolding descriptorsAt
-  descriptors-there = list10-there noTag s (behind channelHead a) z (x .r2) (x .descs) (o .1) (head-and-rest .1) .0
+  descriptors-there = descriptors-placed .0
 
   pub channel-there : channelAt s a ≡ channelFor a x
   unfolding channelAt nameAt tuningAt serviceAt

@@ -73,3 +73,14 @@ unfolding nthOf
 nth-made g enc told absent a [] i = refl
 nth-made g enc told absent a (x ∷ xs) zero = refl
 nth-made g enc told absent a (x ∷ xs) (suc i) = nth-made g enc told absent (a + length (enc x)) xs i
+
+-- what is told of a value where it lies is what is said of it, wherever that is: so it is of number i
+module _ {X A : Type 0} (Ok : X → Type 0) (enc : X → List ℕ) (s : List ℕ) (told says : ℕ → X → A) (absent : A)
+    (same : (a b : ℕ) (x : X) → Ok x → Lies (enc x) s a → told a x ≡ says b x) where
+  pub nth-said : (a b : ℕ) (xs : List X) (i : ℕ) → All Ok xs → Lies (encs enc xs) s a
+      → nthOf enc told absent a xs i ≡ nthOf enc says absent b xs i
+  unfolding nthOf
+  nth-said a b [] i g l = refl
+  nth-said a b (x ∷ xs) zero g l = same a b x (g .0) (lies-split (enc x) (encs enc xs) s a l .0)
+  nth-said a b (x ∷ xs) (suc i) g l =
+      nth-said (a + length (enc x)) (b + length (enc x)) xs i (g .1) (lies-split (enc x) (encs enc xs) s a l .1)

@@ -15,7 +15,7 @@ use Rattle.format.specs.Told.{sized12, counted16}
 use Rattle.format.proofs.SizedLaws.{counted16-there}
 use Rattle.format.proofs.ListedLaws.{Stand}
 use Rattle.descriptor.specs.Descriptors.{descriptors, noTag}
-use Rattle.descriptor.specs.Places.{list12}
+use Rattle.descriptor.specs.Places.{list12, listAt}
 use Rattle.descriptor.proofs.ListLaws.{list12-there}
 use Rattle.row.specs.Rows.{partRow}
 use Rattle.mgt.specs.Format.{definedHead, headOf, headIn, DefinedFields, definedFormat, MgtFields, mgtFormat}
@@ -36,9 +36,17 @@ module _ (s : List ℕ) (z : Bytes s) (a : ℕ) (x : DefinedFields) (o : defined
   head-there : headAt s a ≡ x .head
   head-there = ap headIn (vals-there definedHead 9 refl s a (headOf (x .head)) (o .0) (head-and-rest .0))
 
+  -- its descriptors, with their length before them
+  descriptors-placed : (listAt 4096 s (behind definedHead a) ≡ descriptorsPlace a x)
+      × Lies (descriptors noTag .enc (x .descs)) s (descriptorsPlace a x .start)
+  descriptors-placed = list12-there noTag s (behind definedHead a) z (x .r) (x .descs) (o .1) (head-and-rest .1)
+
+  pub descriptors-lie : Lies (descriptors noTag .enc (x .descs)) s (descriptorsPlace a x .start)
+  descriptors-lie = descriptors-placed .1
+
   descriptors-there : descriptorsAt s a ≡ descriptorsPlace a x
   unfolding descriptorsAt
-  descriptors-there = list12-there noTag s (behind definedHead a) z (x .r) (x .descs) (o .1) (head-and-rest .1) .0
+  descriptors-there = descriptors-placed .0
 
   pub defined-there : definedAt s a ≡ definedFor a x
   unfolding definedAt
@@ -92,8 +100,15 @@ module _ (s : List ℕ) (z : Bytes s) (at end : ℕ) (b : MgtFields) (o : mgtFor
       let k = listed-length in
       (t .0, record { good = o .0 .1 .1 .1; lies = t .1; inside = omega arith })
 
+  own-placed : (listAt 4096 s (tablesEnd at b) ≡ fieldsFor at b .descriptors)
+      × Lies (descriptors noTag .enc (b .descs)) s (fieldsFor at b .descriptors .start)
+  own-placed = list12-there noTag s (tablesEnd at b) z (b .r) (b .descs) (o .1) (listed-and-own .1)
+
+  pub own-lie : Lies (descriptors noTag .enc (b .descs)) s (fieldsFor at b .descriptors .start)
+  own-lie = own-placed .1
+
   pub fields-there : fieldsAt s at (tablesEnd at b) ≡ fieldsFor at b
   fields-there =
       let c = entries-there .0 in
-      let d = list12-there noTag s (tablesEnd at b) z (b .r) (b .descs) (o .1) (listed-and-own .1) .0 in
+      let d = own-placed .0 in
       λ i. record { «tables_defined» = c i; descriptors = d i }

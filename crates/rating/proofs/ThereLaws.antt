@@ -14,6 +14,8 @@ use Rattle.format.specs.Repeats.{Bytes, encs}
 use Rattle.format.specs.Laws.OfBytes.{lies-split}
 use Rattle.format.specs.Laws.OfValues.{bytes-length}
 use Rattle.format.specs.Listed.{firstWith, nthOf}
+use Rattle.format.proofs.ListedLaws.{nth-said}
+use Rattle.part.specs.Parts.{bytesIn}
 use Rattle.descriptor.specs.Descriptors.{dimension, region, advisory, content, tagged-full, descriptor, descriptors, descriptorsOf, regionBytes, contentBytes, descriptorBytes, contentAdvisory}
 use Rattle.rating.specs.Ratings.{descriptorSize, ratedSize, regionSize, advisoryIn, regionIn, ratedByRegion, ratedByAdvisory, ratingIn, regionTextAt, textIn, descriptorIn}
 use Rattle.rating.specs.Values.{regionAbsent, dimensionAbsent, noAdvisory, value, byRegion, byAdvisory, ratedBy, regionPlace, placeFrom, textPlace, descriptorFor}
@@ -132,3 +134,14 @@ module _ (s : List ℕ) (z : Bytes s) where
       let i = lies-split (f .enc d) (encs (f .enc) ds) s from l in
       sym (descriptor-next s end from _ (sym (descriptor-size judged s z from d (o .0) (i .0))) (suc k) (λ z. omega arith) (omega arith))
       ∙ rw sub-one (descriptor-there judged end (from + length (f .enc d)) ds (o .1) (i .1) (omega arith) k)
+
+  -- its content lies where it is said to
+  pub content-lies : {A : Type 0} (tell : List ℕ → A) (absent : A) (judged from b : ℕ) (ds : descriptors judged .Val) → descriptors judged .Ok (record {}) ds
+      → Lies (descriptors judged .enc ds) s from → (k : ℕ)
+      → nthOf (descriptorBytes judged) (λ a d. tell (bytesIn s (record { start = a + 2; length = length (contentBytes judged d) }))) absent from (descriptorsOf judged ds) k
+      ≡ nthOf (descriptorBytes judged) (λ a d. tell (contentBytes judged d)) absent b (descriptorsOf judged ds) k
+  unfolding descriptors descriptor content advisory descriptorsOf descriptorBytes contentBytes
+  content-lies tell absent judged from b ds o l k =
+      nth-said (descriptor judged .Ok (record {})) (descriptor judged .enc) s
+      (λ a d. tell (bytesIn s (record { start = a + 2; length = length (content judged .enc (d .content)) }))) (λ a d. tell (content judged .enc (d .content))) absent
+      (λ a b d o l. ap tell (descriptor-values judged s z a d o l .1)) from b ds k o l

@@ -19,7 +19,7 @@ use Rattle.strings.specs.Strings.{text, sizedText}
 use Rattle.strings.specs.Places.{textAt, textEnd}
 use Rattle.strings.proofs.TextLaws.{text-there, text-end-there}
 use Rattle.descriptor.specs.Descriptors.{descriptors, noTag}
-use Rattle.descriptor.specs.Places.{list10}
+use Rattle.descriptor.specs.Places.{list10, listAt}
 use Rattle.descriptor.proofs.ListLaws.{list10-there}
 use Rattle.row.specs.Rows.{partRow}
 use Rattle.rrt.specs.declared.dimension.Dimension.{Dimension}
@@ -173,11 +173,18 @@ module _ (s : List ℕ) (z : Bytes s) (at end : ℕ) (b : RrtFields) (o : rrtFor
       let k = listed-length in
       (t .0, record { good = o .1 .0 .1 .1 .1 .1; lies = t .1; inside = omega arith })
 
+  own-placed : (listAt 1024 s (dimensionsEnd (firstAt s at) b) ≡ record { start = dimensionsEnd (firstAt s at) b + 2; length = length (descriptors noTag .enc (b .descs)) })
+      × Lies (descriptors noTag .enc (b .descs)) s (dimensionsEnd (firstAt s at) b + 2)
+  own-placed = list10-there noTag s (dimensionsEnd (firstAt s at) b) z (b .r) (b .descs) (o .1 .1) (listed-and-own .1)
+
+  pub own-lie : (extension : ℕ) → Lies (descriptors noTag .enc (b .descs)) s (fieldsFor extension at b .descriptors .start)
+  own-lie extension = lies-at _ s _ _ (ap (λ a. dimensionsEnd a b + 2) first-there) (own-placed .1)
+
   pub fields-there : (extension : ℕ) → fieldsAt s extension at (dimensionsEnd (firstAt s at) b) ≡ fieldsFor extension at b
   fields-there extension =
       let f = first-there in
       let n = region-placed .part in
       let c = entries-there .0 in
-      let d = list10-there noTag s (dimensionsEnd (firstAt s at) b) z (b .r) (b .descs) (o .1 .1) (listed-and-own .1) .0
+      let d = own-placed .0
       ∙ (λ i. record { start = dimensionsEnd (f i) b + 2; length = length (descriptors noTag .enc (b .descs)) }) in
       λ i. record { extension = extension; region = extension % 256; name = n i; dimensions = c i; descriptors = d i }

@@ -1,6 +1,6 @@
 -- Where a record lies, what is asked of the bytes of a text's field that is found there is told by the strings of that text.
 use Prim.Native.Nat.{ℕ, _+_}
-use mathlib.Core.Path.{_≡_, refl, sym, ap, _∙_}
+use mathlib.Core.Path.{_≡_, refl, ap, _∙_}
 use mathlib.Core.List.{List, [], _∷_}
 use mathlib.Core.Option.{Option, none, some}
 use lib.ListN.{length}
@@ -13,7 +13,6 @@ use Rattle.strings.specs.Strings.{StringFields, structure, text, stringsOf, asT
 use Rattle.strings.specs.Places.{textAt}
 use Rattle.descriptor.specs.Descriptors.{descriptorsOf, contentAdvisory}
 use Rattle.rating.specs.Values.{textBy, textPlace}
-use Rattle.rating.proofs.ThereLaws.{text-there}
 use Rattle.rating.proofs.TextLaws.{text-lies, text-none}
 use Rattle.rrt.specs.declared.table.Table.{Table as RrtTable}
 use Rattle.rrt.specs.Format.{ValueFields, valueFormat, DimensionFields, dimensionFormat, RrtFields, rrtFormat}
@@ -31,9 +30,37 @@ use Rattle.ett.specs.Fields.{fieldsAt}
 use Rattle.ett.proofs.FieldLaws as etts
 use Rattle.section_text.specs.Fields.{titleField}
 use Rattle.section_laws.specs.Told.{stringsIn}
+use Rattle.section_laws.proofs.QuestionLaws.{place-told}
 
+-- ---- what is asked of a text's bytes, where that is said of the text: the text of a region, by where it is found
+module _ {A : Type 0} (ask : List ℕ → Outcome A) (says : text .Val → Outcome A)
+    (same : (t : text .Val) → text .Ok (record {}) t → ask (text .enc t) ≡ says t)
+    (s : List ℕ) (z : Bytes s) (a : ℕ) (e : EventFields) (o : eventFormat .Ok (record {}) e) (l : Lies (eventFormat .enc e) s a) (region : ℕ) where
+  found : (q : Option Part) → textPlace region (descriptorsPlace a e .start) (descriptorsOf contentAdvisory (e .descs)) ≡ q
+      → after (orNone q) (λ p. ask (bytesIn s p)) ≡ after (orNone (textBy region (descriptorsOf contentAdvisory (e .descs)))) says
+  unfolding after
+  found none k =
+      let d = eits.descriptors-lie s z a e o l in
+      rw (text-none s z region (descriptorsPlace a e .start) (e .descs) (d .0) (d .1) k) refl
+  found (some p) k =
+      let d = eits.descriptors-lie s z a e o l in
+      let u = text-lies s z region (descriptorsPlace a e .start) (e .descs) (d .0) (d .1) p k in
+      let n = ap (λ n. ask (bytesIn s (record { start = p .start; length = n }))) (u .1 .1 .1 .1) in
+      rw (u .1 .0) (n ∙ ap ask (u .1 .1 .1 .0) ∙ same (u .0) (u .1 .1 .0))
+
+  pub region-text : after (orNone (textPlace region (descriptorsPlace a e .start) (descriptorsOf contentAdvisory (e .descs)))) (λ p. ask (bytesIn s p))
+      ≡ after (orNone (textBy region (descriptorsOf contentAdvisory (e .descs)))) says
+  region-text = found _ refl
+
+-- ---- where it is told by the text's strings: of every sort of text
 module _ {A : Type 0} (ask : List ℕ → Outcome A) (tell : List StringFields → Outcome A)
     (same : (t : text .Val) → text .Ok (record {}) t → ask (text .enc t) ≡ tell (stringsOf t)) (s : List ℕ) where
+  -- the strings of a text that there may be
+  strings-in : (q : Option (text .Val)) → after (orNone q) (λ t. tell (stringsOf t)) ≡ after (stringsIn q) tell
+  unfolding after
+  strings-in none = refl
+  strings-in (some t) = refl
+
   -- a text alone
   lying : (a : ℕ) (t : text .Val) → text .Ok (record {}) t × Lies (text .enc t) s a
       → ask (bytesIn s (record { start = a; length = length (text .enc t) })) ≡ tell (stringsOf t)
@@ -80,23 +107,8 @@ module _ {A : Type 0} (ask : List ℕ → Outcome A) (tell : List StringFields �
       pub title-asked : ask (bytesIn s (titleField (titleAt s a))) ≡ tell (stringsOf (e .title))
       title-asked = rw (eits.title-there s z a e o l) (titled (titlePlace a e .start) (e .title) (eits.title-lies s z a e o l))
 
-      -- the text of a region, by where it is found
-      found : (region : ℕ) (q : Option Part) → textPlace region (descriptorsPlace a e .start) (descriptorsOf contentAdvisory (e .descs)) ≡ q
-          → after (orNone q) (λ p. ask (bytesIn s p)) ≡ after (stringsIn (textBy region (descriptorsOf contentAdvisory (e .descs)))) tell
-      unfolding after
-      found region none k =
-          let d = eits.descriptors-lie s z a e o l in
-          rw (text-none s z region (descriptorsPlace a e .start) (e .descs) (d .0) (d .1) k) refl
-      found region (some p) k =
-          let d = eits.descriptors-lie s z a e o l in
-          let u = text-lies s z region (descriptorsPlace a e .start) (e .descs) (d .0) (d .1) p k in
-          let n = ap (λ n. ask (bytesIn s (record { start = p .start; length = n }))) (u .1 .1 .1 .1) in
-          rw (u .1 .0) (n ∙ lying (p .start) (u .0) (u .1 .1 .0, u .1 .1 .1 .0))
-
       pub advisory-asked : (region : ℕ) → after (orNone (advisoryTextAt s a region)) (λ p. ask (bytesIn s p))
           ≡ after (stringsIn (textBy region (descriptorsOf contentAdvisory (e .descs)))) tell
-      unfolding advisoryTextAt
       advisory-asked region =
-          let d = eits.descriptors-lie s z a e o l in
-          rw (eits.descriptors-there s z a e o l)
-          (found region _ (sym (text-there s z _ (descriptorsPlace a e .start) (e .descs) (d .0) (d .1) refl region)))
+          ap (λ q. after (orNone q) (λ p. ask (bytesIn s p))) (place-told s z a e o l region)
+          ∙ region-text ask (λ t. tell (stringsOf t)) same s z a e o l region ∙ strings-in (textBy region (descriptorsOf contentAdvisory (e .descs)))

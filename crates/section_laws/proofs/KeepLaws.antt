@@ -4,6 +4,7 @@ use Rattle.section.proofs.AcceptedLaws.{exactly}
 use Rattle.section.proofs.AnyKindLaws.{exactly-any}
 use Rattle.section_laws.specs.Accepted.{Unique, Keeps}
 use Rattle.section_laws.specs.Ours.{ours}
+use Rattle.section_laws.specs.Rows.{KeepsRows, oursRows}
 use Rattle.section_laws.proofs.TableLaws.{mgt-reads, defined-reads, tvct-reads, channel-reads, rrt-reads, dimension-reads, value-reads, eit-reads, event-reads, ett-reads}
 use Rattle.section_laws.proofs.QuestionLaws.{rating-reads, descriptor-reads, place-reads}
 use Rattle.section_laws.proofs.RowLaws.{row-count-reads, rows-store}
@@ -28,16 +29,20 @@ kept = record {
   descriptor = descriptor-reads;
   place = place-reads;
   ett = ett-reads;
-  rowCount = row-count-reads;
-  rows = rows-store;
-  valueRowCount = value-count-reads;
-  valueRows = value-rows-store;
   count = count-reads;
   heading = heading-reads;
   units = units-reads;
   fieldCount = field-count-reads;
   fieldHeading = field-heading-reads;
   fieldUnits = field-units-reads;
+}
+
+pub kept-rows : KeepsRows oursRows
+kept-rows = record {
+  rowCount = row-count-reads;
+  rows = rows-store;
+  valueRowCount = value-count-reads;
+  valueRows = value-rows-store;
   titleCounts = titles-read;
   titleRows = title-rows-store;
   titleUnits = title-units-store;

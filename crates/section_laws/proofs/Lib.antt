@@ -5,6 +5,7 @@ pub mod ValueRowLaws
 pub mod AskedLaws
 pub mod TextLaws
 pub mod TitleLaws
+pub mod PartLaws
 pub mod SortLaws
 pub mod KeepLaws
 pub mod NineLaws

@@ -23,8 +23,8 @@ use Rattle.entry.proofs.RecordLaws.{first-there, count-there, entries-stand}
 use Rattle.rows.specs.declared.Row.{Row}
 use Rattle.rows.specs.declared.Row.the-variants.{Table, Channel, Dimension, Event}
 use Rattle.rows.specs.Rows.{entryFor, rowWidth, rowAt, nextAt, rowsFrom, roomForRows, rowsIn, rowsOf, withRows}
-use Rattle.section_laws.specs.Told.{rowTold, rowsTold, countTold, storedRows}
-use Rattle.section_laws.specs.Accepted.{Reads, Stores}
+use Rattle.section_laws.specs.Accepted.{Reads}
+use Rattle.section_laws.specs.Rows.{rowTold, rowsTold, countTold, storedRows, Stores}
 
 -- ---- of an entry that lies at a
 module _ (s : List ℕ) (z : Bytes s) where

@@ -30,9 +30,9 @@ use Rattle.entry.specs.Records.{entriesOf, beginOf}
 use Rattle.entry.proofs.RecordLaws.{count-there, entries-stand}
 use Rattle.section_text.specs.Fields.{titleField}
 use Rattle.titles.specs.Titles.{TitleTold, textTold, toldOf, titleTold, unitsTold, titleRow, unitsFrom, titleRowsFrom, firstEvent, Counts, roomForTitles, titlesIn, titlesOf, withTitleRows, withUnits}
-use Rattle.section_laws.specs.Told.{storedRows}
+use Rattle.section_laws.specs.Accepted.{Reads}
 use Rattle.section_laws.specs.Titled.{sortTold, titleRecord, titleUnits, titleRowsTold, titleRows, titlesTold}
-use Rattle.section_laws.specs.Accepted.{Reads, Stores}
+use Rattle.section_laws.specs.Rows.{storedRows, Stores}
 use Rattle.section_laws.proofs.AskedLaws.{title-asked}
 
 -- ---- of an event that lies at a

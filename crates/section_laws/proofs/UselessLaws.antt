@@ -1,13 +1,13 @@
 -- Each statement says something: what keeps it tells the two sample records of its kind apart. So no judge and no reader whose answer
 -- is always the same keeps its own statement, be that answer a result or a refusal, nor does one that judges rightly and then
--- answers every accepted section alike. A reader with a question fails at one that the full record answers.
+-- answers every accepted section alike, nor a judge that refuses everything. A reader with a question fails at one that the full record answers.
 use Prim.Native.Nat.{ℕ, suc, _*_}
 use mathlib.Core.Path.{_≡_, refl, sym, ap, _∙_}
 use mathlib.Core.List.{List, [], _∷_}
 use native.Mathlib.Omega.{arith}
 use lib.ListN.{length, replicate}
 use Rattle.refusal.specs.Outcomes.{Outcome, refused, result, after, orRefuse}
-use Rattle.refusal.proofs.OutcomeLaws.{same-result}
+use Rattle.refusal.proofs.OutcomeLaws.{same-result, not-both}
 use Rattle.logic.specs.Choices.{ifEq}
 use Rattle.kind.specs.declared.Kind.{Kind}
 use Rattle.kind.specs.declared.Kind.the-variants.{Mgt, Tvct, Rrt, Eit, Ett}
@@ -23,7 +23,7 @@ use Rattle.channel.specs.Fields.{nameRow, tuningRow, serviceRow, numbersRow}
 use Rattle.text.specs.Segments.{wayOf, unitsBy}
 use Rattle.text.specs.Values.{joined, headingOf, unitsOf, ofString, segmentsFor}
 use Rattle.section.specs.declared.header.Header.{Header}
-use Rattle.section.specs.Encoding.{Section, encode, headerOf}
+use Rattle.section.specs.Encoding.{Section, encode, WellFormed, headerOf}
 use Rattle.section.proofs.EncodingLaws.{encode-bytes}
 use Rattle.entry.specs.Records.{kindOfEntry}
 use Rattle.rows.specs.declared.Row.{Row}
@@ -33,9 +33,10 @@ use Rattle.section_text.specs.declared.field.Which.{Which}
 use Rattle.section_text.specs.declared.field.Which.the-variants.{Title, Advisory, Extended, RegionName, DimensionName, ShortText, LongText}
 use Rattle.section_text.specs.Fields.{kindFor}
 use Rattle.titles.specs.Titles as titles
-use Rattle.section_laws.specs.Told.{mgtTold, definedTold, tvctTold, channelTold, rrtTold, dimensionTold, valueTold, eitTold, eventTold, ratingTold, descriptorTold, placeTold, ettTold, rowsTold, countTold, storedRows, numbered, valueRowsTold, valuesIn, valueCountTold, stringsTold}
+use Rattle.section_laws.specs.Told.{mgtTold, definedTold, tvctTold, channelTold, rrtTold, dimensionTold, valueTold, eitTold, eventTold, ratingTold, descriptorTold, placeTold, ettTold, stringsTold}
+use Rattle.section_laws.specs.Accepted.{Judges, JudgesAll, Reads, ReadsText, Library, Keeps}
 use Rattle.section_laws.specs.Titled.{sortTold, titleUnits, titleRowsTold, titleRows, titlesTold}
-use Rattle.section_laws.specs.Accepted.{Judges, JudgesAll, Reads, Stores, ReadsText, Library, Keeps}
+use Rattle.section_laws.specs.Rows.{rowsTold, countTold, storedRows, numbered, valueRowsTold, valuesIn, valueCountTold, Stores}
 use Rattle.section_laws.specs.Samples.{nothing, noStrings, teaString, tea, advised, bare, full, firstAsked}
 use Rattle.section_laws.proofs.SampleLaws.{bare-good, full-good, tea-ok}
 
@@ -52,6 +53,16 @@ pub no-constant : (k : Kind) {A : Type 0} {told : Section k → Outcome A} → R
 no-constant k refuted c r = refuted (λ s. c) refl r
 
 -- ---- the judges
+-- one that keeps its statement accepts every well-formed record
+judged : (k : Kind) (judge : List ℕ → Outcome Header) → Judges k judge → (y : Section k) → WellFormed k y → judge (encode y) ≡ result (headerOf y)
+judged k judge j y o = j _ (encode-bytes k y o) _ .1 (y, (o, (refl, refl)))
+
+-- so none that refuses everything, by whatever numbers
+pub no-refusing : (k : Kind) (judge : List ℕ → Outcome Header) → ((s : List ℕ) → (n : ℕ) × (judge s ≡ refused n)) → Judges k judge → ⊥
+no-refusing k judge refuses j =
+    let r = refuses (encode (full k)) in
+    not-both (r .0) (headerOf (full k)) (sym (r .1) ∙ judged k judge j (full k) (full-good k))
+
 module _ (k : Kind) (judge : List ℕ → Outcome Header) (useless : Useless k judge) where
   headers : judge (encode (bare k)) ≡ result (headerOf (bare k)) → judge (encode (full k)) ≡ result (headerOf (full k)) → ⊥
   headers a b =
@@ -59,9 +70,7 @@ module _ (k : Kind) (judge : List ℕ → Outcome Header) (useless : Useless k j
       omega arith
 
   pub no-judge : Judges k judge → ⊥
-  no-judge j =
-      headers (j _ (encode-bytes k (bare k) (bare-good k)) _ .1 (bare k, (bare-good k, (refl, refl))))
-      (j _ (encode-bytes k (full k) (full-good k)) _ .1 (full k, (full-good k, (refl, refl))))
+  no-judge j = headers (judged k judge j (bare k) (bare-good k)) (judged k judge j (full k) (full-good k))
 
   pub no-judge-all : JudgesAll judge → ⊥
   no-judge-all j =

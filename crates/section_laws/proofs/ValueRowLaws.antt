@@ -22,8 +22,8 @@ use Rattle.entry.specs.Records.{entriesOf, beginOf}
 use Rattle.entry.proofs.RecordLaws.{first-there, count-there, entries-stand}
 use Rattle.rows.specs.Rows.{roomForRows}
 use Rattle.rows.specs.Values.{valueRows, dimensionRows, valueCount, valueRowsIn, valueRowsOf, withValueRows}
-use Rattle.section_laws.specs.Told.{storedRows, numbered, dimensionRowsTold, valueRowsTold, valuesIn, valueCountTold}
-use Rattle.section_laws.specs.Accepted.{Reads, Stores}
+use Rattle.section_laws.specs.Accepted.{Reads}
+use Rattle.section_laws.specs.Rows.{storedRows, numbered, dimensionRowsTold, valueRowsTold, valuesIn, valueCountTold, Stores}
 
 module _ (s : List ℕ) (z : Bytes s) (end : ℕ) where
   -- ---- of values that lie one after the other

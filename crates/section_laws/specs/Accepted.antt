@@ -1,6 +1,7 @@
 -- SCOPE 12.4 and 12.6: a section is accepted exactly when it is the encoding of a well-formed record, which is one only, and every
--- reader answers what is told of that record. Each statement is of any judge and any reader: this library's keep them, and none
--- whose answer is always the same keeps its own (proofs/).
+-- reader answers what is told of that record. The statements of a judge are of any judge; those of a reader are of any reader beside
+-- this library's judge, `sectionBy`, which keeps its own. This library's readers keep theirs too, and no judge and no reader whose answer
+-- is always the same does, nor a judge that refuses everything (proofs/).
 use Prim.Native.Nat.{ℕ}
 use mathlib.Core.Path.{_≡_}
 use mathlib.Core.Logic.{_↔_}
@@ -29,14 +30,9 @@ use Rattle.text.specs.Values.{headingOf, unitsOf}
 use Rattle.section.specs.declared.header.Header.{Header}
 use Rattle.section.specs.Sections.{sectionBy}
 use Rattle.section.specs.Encoding.{Section, encode, WellFormed, headerOf}
-use Rattle.entry.specs.Records.{kindOfEntry}
-use Rattle.rows.specs.declared.Row.{Row}
-use Rattle.rows.specs.Rows.{entryFor}
 use Rattle.section_text.specs.declared.field.Which.{Which}
 use Rattle.section_text.specs.Fields.{kindFor}
-use Rattle.titles.specs.Titles.{Counts}
-use Rattle.section_laws.specs.Told.{mgtTold, definedTold, tvctTold, channelTold, rrtTold, dimensionTold, valueTold, eitTold, eventTold, ratingTold, descriptorTold, placeTold, ettTold, rowsTold, countTold, storedRows, valueRowsTold, valueCountTold, stringsTold}
-use Rattle.section_laws.specs.Titled.{titleUnits, titleRows, titlesTold}
+use Rattle.section_laws.specs.Told.{mgtTold, definedTold, tvctTold, channelTold, rrtTold, dimensionTold, valueTold, eitTold, eventTold, ratingTold, descriptorTold, placeTold, ettTold, stringsTold}
 
 -- ---- the judge
 -- s is the encoding of a well-formed record of the kind, whose header is h
@@ -63,18 +59,13 @@ pub record Reads (k : Kind) {A : Type 0} (reader : List ℕ → Outcome A) (tell
 abbrev pub NoNine : Kind → {A : Type 0} → (List ℕ → Outcome A) → Type 0
 NoNine k reader = (s : List ℕ) → Bytes s → (h : Header) → sectionBy (onlyOf k) s ≡ result h → reader s ≡ refused 9 → ⊥
 
--- a writer into a lent list: what it leaves there is what is told, and a section that is refused leaves it as it was
-pub record Stores (k : Kind) (writer : List ℕ → List ℕ → List ℕ) (tell : List ℕ → Section k → List ℕ) : Type 0 where
-  pub stores : (l : List ℕ) (y : Section k) → WellFormed k y → writer l (encode y) ≡ tell l y
-  pub keeps : (l s : List ℕ) (n : ℕ) → sectionBy (onlyOf k) s ≡ refused n → writer l s ≡ l
-
 -- a reader of a text field alone: 9 where its bytes are those of no text
 pub record ReadsText {A : Type 0} (reader : List ℕ → Outcome A) (tell : List StringFields → Outcome A) : Type 0 where
   pub tells : (t : text .Val) → text .Ok (record {}) t → reader (text .enc t) ≡ tell (stringsOf t)
   pub refuses : (f : List ℕ) → Bytes f → ((t : text .Val) → text .Ok (record {}) t → f ≡ text .enc t → ⊥) → reader f ≡ refused 9
 
--- ---- what is asked of sections and of texts: entry i, value j, string or descriptor k; a region and a dimension; the room of a lent list, or the list itself as
--- it was before (`before`); the section or the field's bytes come last. `place` is where an advisory's text stands. Ours.antt says which definition is which
+-- ---- what is asked of sections and of texts: entry i, value j, string or descriptor k; a region and a dimension; the section or the field's bytes
+-- come last. `place` is where an advisory's text stands. Ours.antt says which definition is which, and Rows.antt has the calls that answer for all entries at once
 pub record Library : Type 0 where
   pub judge : Kind → List ℕ → Outcome Header
   pub judgeAll : List ℕ → Outcome Header
@@ -91,19 +82,12 @@ pub record Library : Type 0 where
   pub descriptor : (i k : ℕ) → List ℕ → Outcome Descriptor
   pub place : (i region : ℕ) → List ℕ → Outcome Part
   pub ett : List ℕ → Outcome EttTable
-  pub rowCount : Row → (room : ℕ) → List ℕ → Outcome ℕ
-  pub rows : Row → (before : List ℕ) → List ℕ → List ℕ
-  pub valueRowCount : (room : ℕ) → List ℕ → Outcome ℕ
-  pub valueRows : (before : List ℕ) → List ℕ → List ℕ
   pub count : Which → List ℕ → Outcome ℕ
   pub heading : Which → (k : ℕ) → List ℕ → Outcome Heading
   pub units : Which → (k : ℕ) → List ℕ → Outcome (List ℕ)
   pub fieldCount : List ℕ → Outcome ℕ
   pub fieldHeading : (k : ℕ) → List ℕ → Outcome Heading
   pub fieldUnits : (k : ℕ) → List ℕ → Outcome (List ℕ)
-  pub titleCounts : (rows units : ℕ) → List ℕ → Outcome Counts
-  pub titleRows : (units : ℕ) → (before : List ℕ) → List ℕ → List ℕ
-  pub titleUnits : (rows : ℕ) → (before : List ℕ) → List ℕ → List ℕ
 
 -- ---- and what it promises
 pub record Keeps (l : Library) : Type 0 where
@@ -122,16 +106,9 @@ pub record Keeps (l : Library) : Type 0 where
   pub descriptor : (i k : ℕ) → Reads Eit (l .descriptor i k) (descriptorTold i k)
   pub place : (i region : ℕ) → Reads Eit (l .place i region) (placeTold i region)
   pub ett : Reads Ett (l .ett) ettTold
-  pub rowCount : (r : Row) (room : ℕ) → Reads (kindOfEntry (entryFor r)) (l .rowCount r room) (countTold r room)
-  pub rows : (r : Row) → Stores (kindOfEntry (entryFor r)) (l .rows r) (λ out y. storedRows out (rowsTold r y) (countTold r (length out) y))
-  pub valueRowCount : (room : ℕ) → Reads Rrt (l .valueRowCount room) (valueCountTold room)
-  pub valueRows : Stores Rrt (l .valueRows) (λ out y. storedRows out (valueRowsTold y) (valueCountTold (length out) y))
   pub count : (w : Which) → Reads (kindFor w) (l .count w) (λ y. after (stringsTold w y) (λ ss. result (length ss)))
   pub heading : (w : Which) (k : ℕ) → Reads (kindFor w) (l .heading w k) (λ y. after (stringsTold w y) (λ ss. headingOf ss k))
   pub units : (w : Which) (k : ℕ) → Reads (kindFor w) (l .units w k) (λ y. after (stringsTold w y) (λ ss. unitsOf ss k))
   pub fieldCount : ReadsText (l .fieldCount) (λ ss. result (length ss))
   pub fieldHeading : (k : ℕ) → ReadsText (l .fieldHeading k) (λ ss. headingOf ss k)
   pub fieldUnits : (k : ℕ) → ReadsText (l .fieldUnits k) (λ ss. unitsOf ss k)
-  pub titleCounts : (rows units : ℕ) → Reads Eit (l .titleCounts rows units) (titlesTold rows units)
-  pub titleRows : (units : ℕ) → Stores Eit (l .titleRows units) (λ out y. storedRows out (titleRows y) (titlesTold (length out) units y))
-  pub titleUnits : (rows : ℕ) → Stores Eit (l .titleUnits rows) (λ out y. storedRows out (titleUnits y) (titlesTold rows (length out) y))

@@ -1,14 +1,11 @@
 -- SCOPE 2 to 4: what is told of a section's record to each question. Places are offsets of its encoding.
-use Prim.Native.Nat.{ℕ, _+_}
-use mathlib.Core.List.{List, [], _∷_, _++_}
+use Prim.Native.Nat.{ℕ}
+use mathlib.Core.List.{List}
 use mathlib.Core.Option.{Option, none, some}
-use lib.ListN.{length}
-use lib.Seq.{sets}
 use Rattle.part.specs.declared.Part.{Part}
 use Rattle.refusal.specs.Outcomes.{Outcome, refused, result, orNone}
 use Rattle.kind.specs.declared.Kind.the-variants.{Mgt, Tvct, Rrt, Eit, Ett}
 use Rattle.kind.specs.Kinds.{limitsOf}
-use Rattle.format.specs.Listed.{allOf}
 use Rattle.strings.specs.Strings.{text, StringFields, stringsOf, asText}
 use Rattle.descriptor.specs.Descriptors.{descriptorsOf, contentAdvisory}
 use Rattle.rating.specs.Values.{Rated, Descriptor, ratedBy, textBy, textPlace, descriptorFor}
@@ -22,7 +19,6 @@ use Rattle.tvct.specs.Values as tvcts
 use Rattle.rrt.specs.declared.table.Table.{Table as RrtTable}
 use Rattle.rrt.specs.declared.dimension.Dimension.{Dimension as DimensionAnswer}
 use Rattle.rrt.specs.declared.dimension.ValueTexts.{ValueTexts}
-use Rattle.rrt.specs.Format.{valueFormat, DimensionFields, dimensionFormat}
 use Rattle.rrt.specs.Values as rrts
 use Rattle.eit.specs.declared.table.Table.{Table as EitTable}
 use Rattle.eit.specs.declared.event.Event.{Event as EventAnswer}
@@ -31,10 +27,7 @@ use Rattle.ett.specs.declared.table.Table.{Table as EttTable}
 use Rattle.ett.specs.Values as etts
 use Rattle.section.specs.Encoding.{Section}
 use Rattle.entry.specs.declared.Entry.the-variants.{Table, Channel, Dimension, Event}
-use Rattle.entry.specs.Records.{kindOfEntry, recordOf, entriesOf, beginOf, ofEntry, ofValue}
-use Rattle.rows.specs.declared.Row.{Row}
-use Rattle.rows.specs.declared.Row.the-variants as row
-use Rattle.rows.specs.Rows.{entryFor, rowWidth, roomForRows}
+use Rattle.entry.specs.Records.{ofEntry, ofValue}
 use Rattle.section_text.specs.declared.field.Which.{Which}
 use Rattle.section_text.specs.declared.field.Which.the-variants.{Title, Advisory, Extended, RegionName, DimensionName, ShortText, LongText}
 use Rattle.section_text.specs.Fields.{kindFor}
@@ -87,44 +80,6 @@ placeTold i region y =
 -- ---- the ETT
 abbrev pub ettTold : Section Ett → Outcome EttTable
 ettTold y = result (etts.fieldsFor (y .header .extension) (limitsOf Ett .body) (y .body))
-
--- ---- the rows of all entries: their number, or 12 where there is no room, and a lent list after they were stored
-abbrev pub rowTold : (r : Row) → ℕ → recordOf (entryFor r) .Val → List ℕ
-rowTold row.Table a x = mgts.rowFor a x
-rowTold row.Channel a x = channels.rowFor a x
-rowTold row.Dimension d x = rrts.rowFor d x
-rowTold row.Event a x = eits.rowFor a x
-
-abbrev pub rowsTold : (r : Row) → Section (kindOfEntry (entryFor r)) → List ℕ
-rowsTold r y = allOf (recordOf (entryFor r) .enc) (rowTold r) (beginOf (entryFor r) y) (entriesOf (entryFor r) y)
-
-abbrev pub countTold : (r : Row) → ℕ → Section (kindOfEntry (entryFor r)) → Outcome ℕ
-countTold r room y = roomForRows (rowWidth r) (length (entriesOf (entryFor r) y)) room
-
-unfoldable pub storedRows : {A : Type 0} → List ℕ → List ℕ → Outcome A → List ℕ
-storedRows l rows (refused n) = l
-storedRows l rows (result n) = sets l 0 rows
-
--- ---- the rows of all values of an RRT, of six numbers each
--- what is told of values that stand one after the other, the first of which is number k and stands at a: by number, place and value
-unfoldable pub numbered : {X : Type 0} → (X → List ℕ) → (ℕ → ℕ → X → List ℕ) → ℕ → ℕ → List X → List ℕ
-numbered enc tell k a [] = []
-numbered enc tell k a (x ∷ xs) = tell k a x ++ numbered enc tell (k + 1) (a + length (enc x)) xs
-
--- the rows of the values of dimension i, which begins at d
-abbrev pub dimensionRowsTold : ℕ → ℕ → DimensionFields → List ℕ
-dimensionRowsTold i d x = numbered (valueFormat .enc) (rrts.valueRowFor i) 0 (rrts.firstValueFor d x) (x .values)
-
-abbrev pub valueRowsTold : Section Rrt → List ℕ
-valueRowsTold y = numbered (dimensionFormat .enc) dimensionRowsTold 0 (beginOf Dimension y) (entriesOf Dimension y)
-
--- their number
-unfoldable pub valuesIn : List DimensionFields → ℕ
-valuesIn [] = 0
-valuesIn (x ∷ xs) = length (x .values) + valuesIn xs
-
-abbrev pub valueCountTold : ℕ → Section Rrt → Outcome ℕ
-valueCountTold room y = roomForRows 6 (valuesIn (entriesOf Dimension y)) room
 
 -- ---- the strings of a text
 abbrev pub stringsIn : Option (text .Val) → Outcome (List StringFields)

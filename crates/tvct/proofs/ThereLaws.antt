@@ -14,7 +14,7 @@ use Rattle.format.specs.Told.{counted8, sized10}
 use Rattle.format.proofs.SizedLaws.{counted8-there}
 use Rattle.format.proofs.ListedLaws.{Stand}
 use Rattle.descriptor.specs.Descriptors.{descriptors, noTag}
-use Rattle.descriptor.specs.Places.{list10}
+use Rattle.descriptor.specs.Places.{list10, listAt}
 use Rattle.descriptor.proofs.ListLaws.{list10-there}
 use Rattle.channel.specs.Format.{channelFormat}
 use Rattle.channel.specs.Walked.{channel}
@@ -53,8 +53,15 @@ module _ (s : List ℕ) (z : Bytes s) (at end : ℕ) (b : TvctFields) (o : tvctF
       let k = listed-length in
       (t .0, record { good = o .0 .1 .1 .1; lies = t .1; inside = omega arith })
 
+  own-placed : (listAt 1024 s (channelsEnd at b) ≡ fieldsFor 0 at b .descriptors)
+      × Lies (descriptors noTag .enc (b .descs)) s (fieldsFor 0 at b .descriptors .start)
+  own-placed = list10-there noTag s (channelsEnd at b) z (b .r) (b .descs) (o .1) (listed-and-own .1)
+
+  pub own-lie : (extension : ℕ) → Lies (descriptors noTag .enc (b .descs)) s (fieldsFor extension at b .descriptors .start)
+  own-lie extension = own-placed .1
+
   pub fields-there : (extension : ℕ) → fieldsAt s extension at (channelsEnd at b) ≡ fieldsFor extension at b
   fields-there extension =
       let c = entries-there .0 in
-      let d = list10-there noTag s (channelsEnd at b) z (b .r) (b .descs) (o .1) (listed-and-own .1) .0 in
+      let d = own-placed .0 in
       λ i. record { tsid = extension; count = c i; descriptors = d i }

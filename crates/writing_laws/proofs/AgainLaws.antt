@@ -27,9 +27,9 @@ use Rattle.entry.specs.declared.Entry.the-variants.{Event}
 use Rattle.entry.specs.Records.{beginOf}
 use Rattle.entry.proofs.RecordLaws.{entries-stand}
 use Rattle.rows.specs.declared.Row.the-variants as row
-use Rattle.section_laws.specs.Told.{rowsTold}
+use Rattle.section_laws.specs.Rows.{rowsTold}
 use Rattle.section_laws.proofs.TableLaws.{eit-reads}
-use Rattle.writing_laws.specs.RoundTrips.{givenOf, asBytes, EitWriter, Inside, GivesEit, WritesEit, RewritesEit}
+use Rattle.writing_laws.specs.RoundTrips.{givenOf, asBytes, EitWriter, Inside, GivesEit, WritesEit, eventRows, RewritesEit}
 use Rattle.writing_laws.proofs.TestLaws.{header-back}
 
 -- ---- behind a row stand the others
@@ -139,27 +139,31 @@ module _ (s : List ℕ) (end : ℕ) where
       subst (Inside (rowFor a e ++ rowsOf b es) s) k
       (inside-later (rowFor a e) (rowsOf b es) s (row-wide a e) (8 * i) (rows-in f b es (rest-stand eventFormat s end a e es g) i (omega arith)))
 
+-- they are those that the call for all rows tells
+pub rows-told : (y : Section Eit) → rowsTold row.Event y ≡ eventRows y
+rows-told y = refl
+
 -- ---- a section is written again
 module _ (write : EitWriter) (w : WritesEit write) where
   pub eit-again : (y : Section Eit) → WellFormed Eit y → OnesHeader y × OnesEit (y .body) → (room : ℕ) → length (encode y) ≤ room
-      → write (givenOf (headerOf y)) (length (y .body .events)) (rowsTold row.Event y) (encode y) room ≡ result (encode y)
+      → write (givenOf (headerOf y)) (length (y .body .events)) (eventRows y) (encode y) room ≡ result (encode y)
   eit-again y o v room m =
       let es = y .body .events in
       let z = encode-bytes Eit y o in
       let a = beginOf Event y in
       let g = entries-stand Event y o in
       let end = length (encode y) - 4 in
-      let d : GivesEit (givenOf (headerOf y)) (length es) (rowsTold row.Event y) (encode y) y = record {
+      let d : GivesEit (givenOf (headerOf y)) (length es) (eventRows y) (encode y) y = record {
         good = o;
         header = header-back Eit y (v .0);
         whole = rows-wide a es;
         inside = rows-in (encode y) end (omega arith) a es g;
         events = rows-give (encode y) end z a es g (v .1);
       } in
-      w (givenOf (headerOf y)) (length es) (rowsTold row.Event y) (encode y) room z (encode y) .1 ((y, (d, refl)), m)
+      w (givenOf (headerOf y)) (length es) (eventRows y) (encode y) room z (encode y) .1 ((y, (d, refl)), m)
 
   pub rewrites-eit : RewritesEit write
   rewrites-eit y h f q r o room m =
       let p : h ≡ headerOf y = same-result h (headerOf y) (sym q ∙ accepts Eit y (o .0)) in
       let t : f ≡ fieldsFor (y .header .extension) (y .body) = same-result f _ (sym r ∙ eit-reads .tells y (o .0)) in
-      (λ i. write (givenOf (p i)) (t i .count) (rowsTold row.Event y) (encode y) room) ∙ eit-again y (o .0) (o .1) room m
+      (λ i. write (givenOf (p i)) (t i .count) (eventRows y) (encode y) room) ∙ eit-again y (o .0) (o .1) room m

@@ -11,13 +11,14 @@ use Rattle.kind.specs.declared.Kind.the-variants.{Eit, Ett}
 use Rattle.kind.specs.Kinds.{limitsOf, onlyOf}
 use Rattle.format.specs.Repeats.{Bytes}
 use Rattle.format.specs.Values.{behind}
+use Rattle.format.specs.Listed.{allOf}
 use Rattle.part.specs.declared.Part.{Part}
 use Rattle.part.specs.Parts.{endOf, bytesIn}
 use Rattle.strings.specs.Strings.{structure, text}
 use Rattle.descriptor.specs.Descriptors.{descriptors, contentAdvisory}
 use Rattle.eit.specs.Format.{EventOf, EventFields, eventFormat}
 use Rattle.eit.specs.Given.{titleGiven, listGiven, eventGiven, eventsGiven}
-use Rattle.eit.specs.Values.{titlePlace, descriptorsPlace, eventFor, OnesEit}
+use Rattle.eit.specs.Values.{titlePlace, descriptorsPlace, eventFor, rowFor, OnesEit}
 use Rattle.eit.specs.declared.table.Table.{Table as EitTable}
 use Rattle.ett.specs.declared.table.Table.{Table as EttTable}
 use Rattle.ett.specs.Format.{etmHead}
@@ -26,10 +27,10 @@ use Rattle.section.specs.declared.write.Given.{Given}
 use Rattle.section.specs.Sections.{sectionBy}
 use Rattle.section.specs.Encoding.{Section, encode, WellFormed, OnesHeader}
 use Rattle.section.specs.Writing.{headerGiven}
+use Rattle.entry.specs.declared.Entry.the-variants.{Event}
+use Rattle.entry.specs.Records.{entriesOf, beginOf}
 use Rattle.reading.specs.Eits as eits
 use Rattle.reading.specs.Etts as etts
-use Rattle.rows.specs.declared.Row.the-variants as row
-use Rattle.section_laws.specs.Told.{rowsTold}
 
 -- ---- headers
 -- what is read of a header that was given, and what is given to write one again that was read
@@ -133,12 +134,16 @@ ReadsBackEit write =
     (g : Given) (count : ℕ) (rows bytes : List ℕ) (room : ℕ) → Bytes bytes → (s : List ℕ) → write g count rows bytes room ≡ result s
     → ReadsAsEit g count rows bytes s
 
+-- the rows of its events, with places in the section's own bytes: those that are told of it (law `rows-told`)
+abbrev pub eventRows : Section Eit → List ℕ
+eventRows y = allOf (eventFormat .enc) rowFor (beginOf Event y) (entriesOf Event y)
+
 -- an accepted section whose reserved bits are ones, which is `encode y` of its record y, is written again from what is read of it: the header, how many
--- events there are, and their rows, which are what is told of y, with places in the section's own bytes
+-- events there are, and their rows
 abbrev pub RewritesEit : EitWriter → Type 0
 RewritesEit write =
     (y : Section Eit) (h : Header) (f : EitTable) → sectionBy (onlyOf Eit) (encode y) ≡ result h → eits.fieldsOf (encode y) ≡ result f → EitWithOnes y
-    → (room : ℕ) → length (encode y) ≤ room → write (givenOf h) (f .count) (rowsTold row.Event y) (encode y) room ≡ result (encode y)
+    → (room : ℕ) → length (encode y) ≤ room → write (givenOf h) (f .count) (eventRows y) (encode y) room ≡ result (encode y)
 
 -- ---- what the two writers of a library promise
 pub record RoundTrips (ett : EttWriter) (eit : EitWriter) : Type 0 where
