@@ -166,14 +166,14 @@ not-stores-first h =
     not-part 1 3 (sym one-of-three ∙ ap (λ (z : State). step z (status mine) .answer) (sym e) ∙ meets storesFirst h .1 .says)
 
 -- ---- the bytes: section 1 has its number in byte 6, so it is fetched of no area that has 0 there in every place
-abbrev noNumber : List ℕ → Type 0
-noNumber area = (j : ℕ) → getD area (j * 4096 + 6) 0 ≡ 0
+abbrev NoNumber : List ℕ → Type 0
+NoNumber area = (j : ℕ) → getD area (j * 4096 + 6) 0 ≡ 0
 
 byte-6 : (m : ℕ) → getD (section m) 6 0 ≡ m
 unfolding eit sealed
 byte-6 m = refl
 
-in-part : (area : List ℕ) (j n : ℕ) → noNumber area → getD (bytesAt area j n) 6 0 ≡ 0
+in-part : (area : List ℕ) (j n : ℕ) → NoNumber area → getD (bytesAt area j n) 6 0 ≡ 0
 in-part area j n z = ⊎-elim
     (λ b. getD-take n (drop (j * 4096) area) 6 0 (ltb-true 6 n b) ∙ getD-drop (j * 4096) area 6 0 ∙ z j)
     (λ b. List·getD-eq-default (bytesAt area j n) 0 (omega (arith, ltb-false 6 n b, length-take n (drop (j * 4096) area))))
@@ -185,7 +185,7 @@ same-bytes-given a b e = cc
 not-gave : {A : Type 0} (n : ℕ) (b : List ℕ) → gave (refused n) ≡ gave (result b) → A
 not-gave n b e = let z : _≡_ {A = ℕ} 0 1 = cc in absurd (omega (arith, z))
 
-not-given : (z : State) → noNumber (z .area) → step z (fetch mine 1) .answer ≡ gave (result (section 1)) → ⊥
+not-given : (z : State) → NoNumber (z .area) → step z (fetch mine 1) .answer ≡ gave (result (section 1)) → ⊥
 unfolding step stepOn fetched fetchedFrom
 not-given z none-there e = go (fetched s size mine 1 .outcome) refl e
   where
@@ -211,7 +211,7 @@ not-given z none-there e = go (fetched s size mine 1 .outcome) refl e
           in-part (z .area) j (placeAt s j .length) none-there,
         )
 
-blank-everywhere : noNumber blank
+blank-everywhere : NoNumber blank
 blank-everywhere j = replicate-at room (j * 4096 + 6) 0
 
 pub not-keeps-no-bytes : FirstHalf (byValue keepsNoBytes) → ⊥
@@ -219,7 +219,7 @@ unfolding stateAfter step stepOn
 not-keeps-no-bytes h = not-given (stateAfter (byValue keepsNoBytes) x inOrder) blank-everywhere (meets keepsNoBytes h .1 .holds 1 (omega arith))
 
 -- where section 0 alone is written, byte 6 of its place is its number, and so 0 too
-pasted : (i : ℕ) → i < 5 → noNumber (paste blank (i * 4096) (section 0) (length (section 0)))
+pasted : (i : ℕ) → i < 5 → NoNumber (paste blank (i * 4096) (section 0) (length (section 0)))
 unfolding eit sealed fourBytes
 pasted i l j =
     let fits : i * 4096 + length (section 0) ≤ length blank = omega (arith, blank-size) in
@@ -235,11 +235,11 @@ pasted i l j =
     (both (ltb i j)))
     (both (ltb j i))
 
-first-written : noNumber (one-on .area)
+first-written : NoNumber (one-on .area)
 unfolding step stepOn areaAfter stateAfter
 first-written = go (delivering (x .shelf) (length blank) 0x1D00 (section 0) .outcome) refl
   where
-    go : (o : Outcome ℕ) → delivering (x .shelf) (length blank) 0x1D00 (section 0) .outcome ≡ o → noNumber (areaAfter blank (section 0) o)
+    go : (o : Outcome ℕ) → delivering (x .shelf) (length blank) 0x1D00 (section 0) .outcome ≡ o → NoNumber (areaAfter blank (section 0) o)
     go (refused k) e = blank-everywhere
     go (result i) e = pasted i (below _ (rules (x .shelf) (length blank) (known-0 .ok) .size .area-is) (delivery-stays (x .shelf) blank 0x1D00 (section 0) i e .place-inside))
       where
@@ -272,7 +272,7 @@ first-left =
 
 pub not-keeps-first-bytes : FirstHalf (byValue keepsFirstBytes) → ⊥
 not-keeps-first-bytes h =
-    not-given (stateAfter (byValue keepsFirstBytes) x inOrder) (subst noNumber (sym first-left) first-written) (meets keepsFirstBytes h .1 .holds 1 (omega arith))
+    not-given (stateAfter (byValue keepsFirstBytes) x inOrder) (subst NoNumber (sym first-left) first-written) (meets keepsFirstBytes h .1 .holds 1 (omega arith))
 
 -- ---- the number held: where deliveries and openings are answered as they should be, c of n is told as it is
 abbrev before : State
