@@ -18,7 +18,8 @@ use Rattle.shelf.specs.Views.{Call, View, asks, closes, delivers, fetches, fres
 use Rattle.shelf_laws.specs.Laws.{Obeys, OneStep, quotaClosed, quotaIn}
 use Rattle.shelf_laws.proofs.StepLaws.{step-law}
 use Rattle.collecting.proofs.TurnLaws.{empty-now, own-next}
-use Rattle.collecting.specs.Collecting.{Own, PlacesPromised, stateAfter, one-more, ours, quotaNext, quotasClosed, quotasOpened, recorded}
+use Rattle.collecting.specs.Collecting.{Own, stateAfter, one-more, recorded}
+use Rattle.collecting.specs.More.{PlacesPromised, ours, quotaNext, quotasClosed, quotasOpened}
 
 -- ---- the quota of a key moves as the record tells
 quota-hears : (v : Option View) (b : List ℕ) (o : Outcome Header) → quotaIn (hearsIn v b o) ≡ quotaIn v
