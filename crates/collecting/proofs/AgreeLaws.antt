@@ -68,9 +68,9 @@ agreeing-collect B g = record {
       (none-is B g table x ts (f .0), complete-is B g table (stateAfter B x ts) (subst (Complete ours table) (sym (after-is B g x ts)) (f .1)));
   second-half = λ x k ts ok silent own. told-after B g x k ts _ (second-half (B .means x) k ts ok silent own);
   from-empty = λ x k ts e own. told-after B g x k ts _ (from-empty (B .means x) k ts (empty-is B g x e) own);
-  places-promised = λ x ts e own.
+  places-promised = λ x ts e.
       ap₂ (λ (y : State) (es : List Exchange). promised (y .shelf) + quotasClosed (λ k. 0) es) (after-is B g x ts) (recorded-is B g x ts)
-      ∙ places-promised (B .means x) ts (empty-is B g x e) own
+      ∙ places-promised (B .means x) ts (empty-is B g x e)
       ∙ ap quotasOpened (sym (recorded-is B g x ts));
 }
 

@@ -86,7 +86,7 @@ module _ (k : Asked) (table : WholeTable k) where
       y = accepted (step x t .answer)
 
       view-next : viewIn (step x t .next) k ≡ nextView k (t .call) y (some v)
-      view-next = step-law x t ok lent .views k ∙ ap (nextView k (t .call) y) is
+      view-next = step-law x t ok .views lent k ∙ ap (nextView k (t .call) y) is
 
       -- the watch is still open, with its quota, and what was got stays so
       pub record Stays : Type 0 where
@@ -186,7 +186,7 @@ module _ (k : Asked) (table : WholeTable k) where
     none-refused = none-left;
   }
   ends x v (t ∷ ts) ok is room (one-more lent own) (goes-on al st) =
-      let s : OneStep x t = step-law x t ok lent in
+      let s : OneStep x t = step-law x t ok in
       let o = turned x v ok is t lent al in
       let r = ends (step x t .next) (o .view) ts (s .keeps) (o .is-view) (omega (arith, room, o .same-quota)) (own-next s own) st in
       record {

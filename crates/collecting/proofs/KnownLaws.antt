@@ -52,13 +52,14 @@ module _ {n : ℕ} {f : Asked → Option View} where
   pub goes : (x : State) (t : Turn) (r : Answer) (g : Asked → Option View) → Known n f x → ownOr14 n (t .lent) ≡ true → step x t .answer ≡ r
       → ((k : Asked) → nextView k (t .call) (accepted r) (f k) ≡ g k) → Goes n f t r g x
   goes x t r g i lent e h =
-      let s : OneStep x t = step-law x t (i .ok) (subst (λ (m : ℕ). ownOr14 m (t .lent) ≡ true) (sym (i .size)) lent) in
+      let s : OneStep x t = step-law x t (i .ok) in
+      let lent-it = subst (λ (m : ℕ). ownOr14 m (t .lent) ≡ true) (sym (i .size)) lent in
       record {
         answer = e;
         known = record {
           ok = s .keeps;
           size = s .size ∙ i .size;
-          views = λ k. s .views k ∙ ap (λ (y : Bool). nextView k (t .call) y (viewIn x k)) (ap accepted e) ∙ ap (nextView k (t .call) (accepted r)) (i .views k) ∙ h k;
+          views = λ k. s .views lent-it k ∙ ap (λ (y : Bool). nextView k (t .call) y (viewIn x k)) (ap accepted e) ∙ ap (nextView k (t .call) (accepted r)) (i .views k) ∙ h k;
         };
       }
 

@@ -118,10 +118,10 @@ told-after x k [] hs ok own t = record {
   gives = λ m. says-bytes x k ok m ∙ ap gave (bytes-told hs (viewIn x k) m t);
 }
 told-after x k (u ∷ ts) hs ok (one-more lent own) t =
-    let s : OneStep x u = step-law x u ok lent in
+    let s : OneStep x u = step-law x u ok in
     let y : Bool = accepted (step x u .answer) in
     told-after (step x u .next) k ts (historyNext k (u .call) y hs) (s .keeps) (own-next s own)
-    (subst (Told (historyNext k (u .call) y hs)) (sym (s .views k)) (next-told k (u .call) y hs (viewIn x k) t))
+    (subst (Told (historyNext k (u .call) y hs)) (sym (s .views lent k)) (next-told k (u .call) y hs (viewIn x k) t))
 
 pub second-half : SecondHalf ours
 second-half x k ts ok silent own = told-after x k ts (nothingYet (viewIn x k)) ok own (start (viewIn x k) refl)

@@ -73,7 +73,7 @@ pub stretch-of : (k : Asked) (table : WholeTable k) (x : State) (v : View) (ts :
     → AllPlain table (v .quota) ts → Stretch ours table x ts
 stretch-of k table x v [] ok is o ps = end
 stretch-of k table x v (t ∷ ts) ok is (one-more lent later) (plain p ps) =
-    let s : OneStep x t = step-law x t ok lent in
+    let s : OneStep x t = step-law x t ok in
     let al : Allowed ours table x t = allowed k table x v ok is t lent p in
     let o = turned k table x v ok is t lent al in
     goes-on al (stretch-of k table (step x t .next) (o .view) ts (s .keeps) (o .is-view) (own-next s later)

@@ -4,21 +4,21 @@ use mathlib.Core.Path.{_∙_, _≡_, ap, refl, subst, sym}
 use mathlib.Core.Bool.{Bool, false, not, true}
 use mathlib.Core.List.{List, [], _∷_}
 use mathlib.Core.Logic.{⊎-elim}
-use mathlib.Core.Option.{Option, none, some}
+use mathlib.Core.Option.{Option}
 use native.Mathlib.Omega.{arith}
 use lib.Dec.{eqb, ltb}
 use lib.ListN.{List·getD-eq-default, drop, getD, length, length-replicate, length-take, replicate}
 use lib.Seq.{getD-drop, getD-take, paste}
 use borrow.Author.Tests.{ltb-false, ltb-true}
 use Rattle.logic.specs.Choices.{ifEq, pick}
-use Rattle.logic.specs.Loops.{_&_, any, first, sum}
+use Rattle.logic.specs.Loops.{_&_, sum}
 use Rattle.logic.proofs.LoopLaws.{both}
 use Rattle.checksum.specs.Register.{fourBytes, sealed}
 use Rattle.part.specs.Parts.{bytesIn}
 use Rattle.part.specs.declared.Part.{Part}
 use Rattle.refusal.specs.Outcomes.{Outcome, refused, result, orRefuse}
 use Rattle.refusal.proofs.OutcomeLaws.{same-result}
-use Rattle.shelf_state.specs.Records.{isOf, placeAt, sameKey, watchAt}
+use Rattle.shelf_state.specs.Records.{placeAt, sameKey}
 use Rattle.shelf_state.specs.Searches.{placeOf, watchOf}
 use Rattle.shelf_state.specs.declared.records.Asked.{Asked}
 use Rattle.shelf_state.specs.declared.records.Shelf.{Shelf}
@@ -27,11 +27,11 @@ use Rattle.shelf_state.proofs.RuleLaws.{rules}
 use Rattle.shelf.specs.Calls.{fetched, fetchedFrom}
 use Rattle.shelf.specs.Delivery.{areaAfter, delivering}
 use Rattle.shelf.proofs.CallLaws.{passed}
-use Rattle.shelf.specs.Views.{Status, complete, held, unheard, Closing, Delivery, View, atFirst, bytesAt, closes, heldOrComplete, delivers, deliverySays, freshView, hears, put, sameEdition, statusOf, view, viewAt}
+use Rattle.shelf.specs.Views.{Status, complete, held, unheard, Closing, Delivery, View, bytesAt, closes, heldOrComplete, delivers, deliverySays, freshView, hears, put, sameEdition, statusOf, view, viewAt}
 use Rattle.shelf.specs.Steps.{Answer, State, Turn, did, fetchedBytes, gave, step, stepOn, reported, viewIn}
 use Rattle.shelf_laws.proofs.AreaLaws.{paste-after, paste-before, paste-there}
 use Rattle.shelf_laws.proofs.StayLaws.{delivery-stays}
-use Rattle.shelf_laws.proofs.ViewLaws.{never-some}
+use Rattle.shelf_laws.proofs.ViewLaws.{never-some, view-elsewhere}
 use Rattle.collecting.proofs.KnownLaws.{Known, hearing, hears-it, tells-status}
 use Rattle.collecting.proofs.SampleLaws.{eit-key, empty-known, fresh-known, freshViews, room, table}
 use Rattle.collecting.proofs.SecondHalf.{second-half}
@@ -249,12 +249,8 @@ first-written = go (delivering (x .shelf) (length blank) 0x1D00 (section 0) .out
 
 -- whether anything was heard is told without the area
 heard-anywhere : (s : Shelf) (a b : List ℕ) (k : Asked) → hasHeard (view s a k) ≡ hasHeard (view s b k)
-unfolding view viewAt atFirst
-heard-anywhere s a b k = go (any (s .records) (λ i. isOf (watchAt s i) k))
-  where
-    go : (c : Bool) → hasHeard (pick c (some (viewAt s a (first (s .records) (λ i. isOf (watchAt s i) k)))) none) ≡ hasHeard (pick c (some (viewAt s b (first (s .records) (λ i. isOf (watchAt s i) k)))) none)
-    go true = refl
-    go false = refl
+unfolding viewAt
+heard-anywhere s a b k = view-elsewhere hasHeard s a b k (λ w. refl)
 
 next-bytes : (z : State) (m : ℕ) (history : Bool) → hasHeard (viewIn z mine) ≡ history
     → keepsFirstBytes z (sends m) .next ≡ record { shelf = step z (sends m) .next .shelf; area = pick (not history) (step z (sends m) .next .area) (z .area) }

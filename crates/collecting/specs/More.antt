@@ -2,19 +2,17 @@
 -- a watch is called complete, SCOPE 5.9 (the places promised), and which builds keep all of these, the calls on lent memory too.
 use Prim.Native.Nat.{ℕ, _+_, _<_}
 use mathlib.Core.Path.{_≡_}
-use mathlib.Core.Bool.{Bool, true, false}
+use mathlib.Core.Bool.{true, false}
 use mathlib.Core.List.{List, [], _∷_}
 use mathlib.Core.Option.{Option, some, none}
 use lib.ListN.{length}
-use Rattle.logic.specs.Choices.{pick}
-use Rattle.logic.specs.Loops.{_&_}
 use Rattle.refusal.specs.Outcomes.{result}
-use Rattle.shelf_state.specs.Records.{sameKey}
 use Rattle.shelf_state.specs.Rules.{promised}
 use Rattle.shelf_state.specs.declared.records.Asked.{Asked}
-use Rattle.shelf.specs.Views.{complete, Call, View, asks, closes, delivers, fetches, opens}
+use Rattle.shelf.specs.Views.{complete, View}
 use Rattle.shelf.specs.Steps.{State, Step, Turn, accepted, reported, step, viewIn}
-use Rattle.shelf_laws.specs.Laws.{Obeys, quotaClosed, quotaOpened}
+use Rattle.shelf_laws.specs.Laws.{Obeys}
+use Rattle.shelf_laws.specs.Promised.{quotaClosed, quotaNext, quotaOpened}
 use Rattle.lent_memory.specs.Meaning.{LentState}
 use Rattle.lent_laws.specs.Laws.{RefusedKeeps, lentStep, stateOf}
 use Rattle.collecting.specs.Collecting.{Build, Exchange, FirstHalf, FromEmpty, Heard, Own, StartsEmpty, ToldBy, history, occurs, recorded, run, stateAfter, status}
@@ -45,17 +43,11 @@ CompleteOnlyThen =
     → B .turn (stateAfter B x ts) (status k) .answer ≡ reported (result (complete n))
     → EachAccepted n (history k (nothingYet (viewIn (B .means x) k)) (recorded B x ts))
 
--- ---- places promised: the quotas opened less the quotas closed, those that the record says they were opened with
+-- ---- SCOPE 5.9, of any stretch, whatever memory its calls are lent: the quotas opened less the quotas closed, those that the record of calls and
+-- answers says they were opened with
 unfoldable pub quotasOpened : List Exchange → ℕ
 quotasOpened [] = 0
 quotasOpened (e ∷ es) = quotaOpened (e .call) (accepted (e .answer)) + quotasOpened es
-
-unfoldable pub quotaNext : Asked → Call → Bool → ℕ → ℕ
-quotaNext k (opens o) y n = pick (y & sameKey k (o .key)) (o .quota) n
-quotaNext k (closes c) y n = pick (y & sameKey k (c .key)) 0 n
-quotaNext k (asks q) y n = n
-quotaNext k (fetches f) y n = n
-quotaNext k (delivers d) y n = n
 
 unfoldable pub quotasClosed : (Asked → ℕ) → List Exchange → ℕ
 quotasClosed f [] = 0
@@ -64,7 +56,7 @@ quotasClosed f (e ∷ es) =
     + quotasClosed (λ k. quotaNext k (e .call) (accepted (e .answer)) (f k)) es
 
 abbrev pub PlacesPromised : Build → Type 0
-PlacesPromised B = (x : B .Memory) (ts : List Turn) → StartsEmpty B x → Own (length (B .means x .area)) ts
+PlacesPromised B = (x : B .Memory) (ts : List Turn) → StartsEmpty B x
     → promised (B .means (stateAfter B x ts) .shelf) + quotasClosed (λ k. 0) (recorded B x ts) ≡ quotasOpened (recorded B x ts)
 
 -- ---- the calls by value are a build whose memory is the shelf and the area themselves
