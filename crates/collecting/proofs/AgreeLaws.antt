@@ -10,7 +10,8 @@ use Rattle.lent_laws.proofs.StepLaws.{lent-step, refused-keeps}
 use Rattle.collecting.proofs.FirstHalf.{first-half}
 use Rattle.collecting.proofs.SecondHalf.{from-empty, second-half}
 use Rattle.collecting.proofs.PromisedLaws.{places-promised}
-use Rattle.collecting.specs.Collecting.{AgreeingCollect, Agrees, Allowed, Build, Complete, Exchange, Heard, LentHolds, NoneRefused, StartsEmpty, Stretch, WholeTable, ToldBy, stateAfter, and-then, end, fetch, history, lentBuild, none-left, ours, quotasClosed, quotasOpened, recorded, status, goes-on}
+use Rattle.collecting.specs.Collecting.{Allowed, Build, Complete, Exchange, Heard, NoneRefused, StartsEmpty, Stretch, WholeTable, ToldBy, stateAfter, and-then, end, fetch, history, none-left, recorded, status, goes-on}
+use Rattle.collecting.specs.More.{AgreeingCollect, Agrees, LentHolds, lentBuild, ours, quotasClosed, quotasOpened}
 
 module _ (B : Build) (g : Agrees B) where
   after-is : (x : B .Memory) (ts : List Turn) → B .means (stateAfter B x ts) ≡ stateAfter ours (B .means x) ts
@@ -67,9 +68,9 @@ agreeing-collect B g = record {
       (none-is B g table x ts (f .0), complete-is B g table (stateAfter B x ts) (subst (Complete ours table) (sym (after-is B g x ts)) (f .1)));
   second-half = λ x k ts ok silent own. told-after B g x k ts _ (second-half (B .means x) k ts ok silent own);
   from-empty = λ x k ts e own. told-after B g x k ts _ (from-empty (B .means x) k ts (empty-is B g x e) own);
-  places-promised = λ x ts e own.
+  places-promised = λ x ts e.
       ap₂ (λ (y : State) (es : List Exchange). promised (y .shelf) + quotasClosed (λ k. 0) es) (after-is B g x ts) (recorded-is B g x ts)
-      ∙ places-promised (B .means x) ts (empty-is B g x e) own
+      ∙ places-promised (B .means x) ts (empty-is B g x e)
       ∙ ap quotasOpened (sym (recorded-is B g x ts));
 }
 

@@ -21,7 +21,8 @@ use Rattle.shelf_laws.specs.Laws.{Obeys, OneStep}
 use Rattle.shelf_laws.proofs.StepLaws.{step-law}
 use Rattle.shelf_laws.proofs.ViewLaws.{unheard-empty}
 use Rattle.collecting.proofs.TurnLaws.{count-says, empty-now, own-next, says-bytes, says-status}
-use Rattle.collecting.specs.Collecting.{CompleteOnlyThen, EachAccepted, FromEmpty, Heard, Own, SecondHalf, ToldBy, stateAfter, bytesTold, continues, history, historyNext, heardWith, newest, newestOr22, nothingYet, occurs, one-more, ours, recorded, run, statusTold}
+use Rattle.collecting.specs.Collecting.{FromEmpty, Heard, Own, ToldBy, stateAfter, bytesTold, continues, history, historyNext, heardWith, newest, newestOr22, occurs, one-more, recorded, run, statusTold}
+use Rattle.collecting.specs.More.{CompleteOnlyThen, EachAccepted, SecondHalf, nothingYet, ours}
 
 -- ---- a view that the sections heard tell
 abbrev EditionIs : List Heard → Edition → Type 0
@@ -117,10 +118,10 @@ told-after x k [] hs ok own t = record {
   gives = λ m. says-bytes x k ok m ∙ ap gave (bytes-told hs (viewIn x k) m t);
 }
 told-after x k (u ∷ ts) hs ok (one-more lent own) t =
-    let s : OneStep x u = step-law x u ok lent in
+    let s : OneStep x u = step-law x u ok in
     let y : Bool = accepted (step x u .answer) in
     told-after (step x u .next) k ts (historyNext k (u .call) y hs) (s .keeps) (own-next s own)
-    (subst (Told (historyNext k (u .call) y hs)) (sym (s .views k)) (next-told k (u .call) y hs (viewIn x k) t))
+    (subst (Told (historyNext k (u .call) y hs)) (sym (s .views lent k)) (next-told k (u .call) y hs (viewIn x k) t))
 
 pub second-half : SecondHalf ours
 second-half x k ts ok silent own = told-after x k ts (nothingYet (viewIn x k)) ok own (start (viewIn x k) refl)
@@ -139,9 +140,9 @@ pub complete-only : CompleteOnlyThen
 complete-only B h x k ts n ok silent own e = go (history k (nothingYet (viewIn (B .means x) k)) (recorded B x ts)) (sym (h x k ts ok silent own .says) ∙ e)
   where
     by : (c : Bool) (ds : List Heard) (N : ℕ) → all N (occurs ds) ≡ c → reported (result (pick c (complete N) (held (count N (occurs ds)) N))) ≡ reported (result (complete n))
-        → (m : ℕ) → m < n → occurs ds m ≡ true
-    by true ds N a q m l = let same : N ≡ n = cc in all-at (occurs ds) N a m (omega (arith, same, l))
-    by false ds N a q m l = let z : _≡_ {A = ℕ} 0 1 = cc in absurd (omega (arith, z))
+        → (n ≡ N) × ((m : ℕ) → m < n → occurs ds m ≡ true)
+    by true ds N a q = let same : n ≡ N = cc in (same, λ m l. all-at (occurs ds) N a m (omega (arith, same, l)))
+    by false ds N a q = let z : _≡_ {A = ℕ} 0 1 = cc in absurd (omega (arith, z))
 
     go : (hs : Option (List Heard)) → reported (statusTold hs) ≡ reported (result (complete n)) → EachAccepted n hs
     go none q = let z : _≡_ {A = ℕ} 0 1 = cc in absurd (omega (arith, z))

@@ -17,7 +17,8 @@ use Rattle.shelf_laws.proofs.AnswerLaws.{broken-law}
 use Rattle.shelf_laws.proofs.StepLaws.{other-breaks, step-law}
 use Rattle.collecting.proofs.FirstHalf.{turned}
 use Rattle.collecting.proofs.TurnLaws.{own-next, says-delivered}
-use Rattle.collecting.specs.Collecting.{Allowed, OneOf, Own, Stretch, WholeTable, end, one-more, ours, goes-on}
+use Rattle.collecting.specs.Collecting.{Allowed, OneOf, Own, Stretch, WholeTable, end, one-more, goes-on}
+use Rattle.collecting.specs.More.{ours}
 
 -- ---- another memory, of another length
 module _ (x : State) (l : List ℕ) (ok : Obeys x) (lent : ownOr14 (length (x .area)) (other l) ≡ true) where
@@ -72,7 +73,7 @@ pub stretch-of : (k : Asked) (table : WholeTable k) (x : State) (v : View) (ts :
     → AllPlain table (v .quota) ts → Stretch ours table x ts
 stretch-of k table x v [] ok is o ps = end
 stretch-of k table x v (t ∷ ts) ok is (one-more lent later) (plain p ps) =
-    let s : OneStep x t = step-law x t ok lent in
+    let s : OneStep x t = step-law x t ok in
     let al : Allowed ours table x t = allowed k table x v ok is t lent p in
     let o = turned k table x v ok is t lent al in
     goes-on al (stretch-of k table (step x t .next) (o .view) ts (s .keeps) (o .is-view) (own-next s later)

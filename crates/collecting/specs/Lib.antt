@@ -1,4 +1,5 @@
 -- The definitions, in reading order.
 pub mod Collecting
+pub mod More
 pub mod Samples
 pub mod Useless

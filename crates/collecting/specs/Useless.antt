@@ -13,9 +13,9 @@ use Rattle.shelf.specs.Steps.{Answer, State, Step, Turn, did, gave, step, repor
 abbrev pub Calls : Type 0
 Calls = State → Turn → Step
 
--- ---- everything is refused, by some number; everything has one answer
-abbrev pub refusesAll : ℕ → Calls
-refusesAll n x t = record { answer = refusedAs (t .call) n; next = x }
+-- ---- everything is refused, each call by any number; everything has one answer
+abbrev pub refusesAll : (State → Turn → ℕ) → Calls
+refusesAll n x t = record { answer = refusedAs (t .call) (n x t); next = x }
 
 abbrev pub constant : Answer → Calls
 constant a x t = record { answer = a; next = step x t .next }
@@ -39,8 +39,24 @@ abbrev pub hasHeard : Option View → Bool
 hasHeard none = false
 hasHeard (some v) = v .edition .heard
 
+abbrev pub unheardBefore : State → Delivery → Bool
+unheardBefore x d = not (hasHeard (viewIn x (keyIn (d .pid) (d .bytes))))
+
 abbrev pub storesFirst : Calls
-storesFirst = storing (λ x d. not (hasHeard (viewIn x (keyIn (d .pid) (d .bytes)))))
+storesFirst = storing unheardBefore
+
+-- ---- answers and records as they should be, so that every status is, but a section's bytes are written only where p says so
+abbrev pub keepingBytes : (State → Delivery → Bool) → Calls
+keepingBytes p x t = record {
+  answer = step x t .answer;
+  next = record { shelf = step x t .next .shelf; area = pick (storedBy p x (t .call)) (step x t .next .area) (x .area) };
+}
+
+abbrev pub keepsNoBytes : Calls
+keepsNoBytes = keepingBytes (λ x d. false)
+
+abbrev pub keepsFirstBytes : Calls
+keepsFirstBytes = keepingBytes unheardBefore
 
 -- ---- c of n told by another status
 abbrev pub retold : (ℕ → ℕ → Status) → Answer → Answer

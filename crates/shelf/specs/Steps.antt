@@ -37,8 +37,8 @@ lentTo x own = x .area
 lentTo x (other l) = l
 
 -- holds of a turn that is lent the shelf's own area, or another memory whose length is not n, which 14 refuses. Another memory of the same length would
--- hold what the shelf's records speak of outside of its area: then something else writes the shelf, of which the third demand does not speak. Such turns
--- are left out of the laws (docs/DECISIONS.md, 43)
+-- hold what the shelf's records speak of outside of its area: then something else writes the shelf, of which the third demand does not speak. The laws
+-- of views leave such turns out (docs/DECISIONS.md, 43); those of the records alone hold of them too
 abbrev pub ownOr14 : ℕ → Lent → Bool
 ownOr14 n own = true
 ownOr14 n (other l) = not (eqb (length l) n)

@@ -24,7 +24,7 @@ use Rattle.shelf.specs.Calls.{answered, closed}
 use Rattle.shelf.specs.Steps.{State}
 use Rattle.shelf.specs.Views.{Closing, closes, keptAt, nextView, view, viewAt}
 use Rattle.shelf.proofs.CallLaws.{go-on, passed}
-use Rattle.shelf_laws.specs.Laws.{quotaClosed, quotaIn, quotaOpened}
+use Rattle.shelf_laws.specs.Promised.{quotaClosed, quotaIn, quotaOpened}
 use Rattle.shelf_laws.specs.Stays.{ClosingKeeps}
 use Rattle.shelf_laws.proofs.KeptLaws.{dropped-other, dropped-stays}
 use Rattle.shelf_laws.proofs.MoveLaws.{Moves, by-key, other-key, promised-moves}

@@ -35,7 +35,7 @@ use Rattle.shelf.proofs.EditLaws.{Edited}
 use Rattle.shelf.proofs.JudgeLaws.{judged-sound}
 use Rattle.shelf.proofs.OwnerLaws.{Owns, for-owner, owns, place-inside, ready-edited, ready-place}
 use Rattle.shelf.proofs.PlaceLaws.{stored-other, stored-rules}
-use Rattle.shelf_laws.specs.Laws.{quotaClosed, quotaOpened}
+use Rattle.shelf_laws.specs.Promised.{quotaClosed, quotaOpened}
 use Rattle.shelf_laws.specs.Stays.{DeliveryKeeps}
 use Rattle.shelf_laws.proofs.AreaLaws.{paste-after, paste-before, paste-size}
 use Rattle.shelf_laws.proofs.KeptLaws.{edited-other, edited-own, edited-stays, put-other, put-own}

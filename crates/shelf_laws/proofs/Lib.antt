@@ -1,6 +1,7 @@
 pub mod ViewLaws
 pub mod AreaLaws
 pub mod KeptLaws
+pub mod QuotaLaws
 pub mod MoveLaws
 pub mod OpenLaws
 pub mod CloseLaws

@@ -20,7 +20,8 @@ use Rattle.shelf_state.specs.declared.records.Watch.{Watch}
 use Rattle.shelf_state.proofs.RecordLaws.{key-is}
 use Rattle.shelf.specs.Steps.{State, viewIn}
 use Rattle.shelf.specs.Views.{Call, Fetching, Question, View, asks, closes, delivers, fetches, keptAt, nextView, opens, view, viewAt}
-use Rattle.shelf_laws.specs.Laws.{Obeys, quotaClosed, quotaIn, quotaOpened}
+use Rattle.shelf_laws.specs.Laws.{Obeys}
+use Rattle.shelf_laws.specs.Promised.{quotaClosed, quotaIn, quotaOpened}
 use Rattle.shelf_laws.specs.Stays.{Others}
 use Rattle.shelf_laws.proofs.ViewLaws.{same-view, view-at, view-keep}
 

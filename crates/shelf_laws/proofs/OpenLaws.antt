@@ -23,7 +23,7 @@ use Rattle.shelf.specs.Calls.{answered, fresh, opened, openedInRange}
 use Rattle.shelf.specs.Steps.{State}
 use Rattle.shelf.specs.Views.{Opening, freshView, keptAt, nextView, opens, view, viewAt}
 use Rattle.shelf.proofs.CallLaws.{go-on, passed}
-use Rattle.shelf_laws.specs.Laws.{quotaClosed, quotaOpened}
+use Rattle.shelf_laws.specs.Promised.{quotaClosed, quotaOpened}
 use Rattle.shelf_laws.specs.Stays.{OpeningKeeps}
 use Rattle.shelf_laws.proofs.MoveLaws.{Moves, by-key, other-key, own-key, promised-moves}
 use Rattle.shelf_laws.proofs.ViewLaws.{kept-none}

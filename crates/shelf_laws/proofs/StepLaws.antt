@@ -1,24 +1,30 @@
--- One step, of any call: the rules are kept, the next view of any key is told by its view, and the answers are functions of views.
-use Prim.Native.Nat.{ℕ}
+-- One step, of any call: the rules are kept, the next view of any key is told by its view, the places promised move by quotas, and the answers
+-- are functions of views.
+use Prim.Native.Nat.{_+_, ℕ}
 use mathlib.Core.Path.{_∙_, _≡_, ap, refl, subst, sym}
-use mathlib.Core.Bool.{Bool, false, true}
+use mathlib.Core.Bool.{Bool, false, not, true}
 use mathlib.Core.List.{List}
+use mathlib.Core.Logic.{⊎-elim}
+use lib.Dec.{eqb}
 use lib.ListN.{length}
-use borrow.Author.Tests.{eqb-false}
-use Rattle.logic.proofs.LoopLaws.{isnt, not-e, true-false}
+use borrow.Author.Tests.{eqb-false, eqb-true}
+use Rattle.logic.proofs.LoopLaws.{both, isnt, not-e, true-false}
 use Rattle.refusal.specs.Outcomes.{Outcome, refused, result}
 use Rattle.shelf_state.proofs.RuleLaws.{rules}
-use Rattle.shelf_state.specs.Rules.{obeys}
+use Rattle.shelf_state.specs.Rules.{obeys, promised}
+use Rattle.shelf_state.specs.declared.records.Asked.{Asked}
 use Rattle.shelf.specs.Answers.{After}
 use Rattle.shelf.specs.Delivery.{areaAfter, delivered, delivering}
-use Rattle.shelf.specs.Steps.{Lent, State, accepted, did, gave, isResult, lentTo, other, own, ownOr14, step, stepOn, reported}
+use Rattle.shelf.specs.Steps.{Lent, State, Step, Turn, accepted, did, gave, isResult, lentTo, other, own, ownOr14, step, stepOn, reported, viewIn}
 use Rattle.shelf.specs.Views.{Call, asks, closes, delivers, fetches, opens}
 use Rattle.shelf_laws.specs.Laws.{AnswerLaw, Obeys, Says, StepLaw}
+use Rattle.shelf_laws.specs.Promised.{PromisesLaw, QuotasLaw, quotaClosed, quotaIn, quotaNext, quotaOpened}
 use Rattle.shelf_laws.proofs.AnswerLaws.{closing-says, delivery-says, fetching-says, opening-says, status-says}
 use Rattle.shelf_laws.proofs.CloseLaws.{closing-moves, closing-passed}
 use Rattle.shelf_laws.proofs.DeliverLaws.{delivery-moves, delivery-passed}
 use Rattle.shelf_laws.proofs.MoveLaws.{Moves, asked-moves, fetched-moves, no-move}
 use Rattle.shelf_laws.proofs.OpenLaws.{opening-moves, opening-passed}
+use Rattle.shelf_laws.proofs.QuotaLaws.{quota-elsewhere, quota-next}
 use Rattle.shelf_laws.proofs.StayLaws.{done-at, done-is, questions-stay, refused-stays, result-obeys}
 
 pub answer-law : AnswerLaw
@@ -59,11 +65,69 @@ accepted-moves x own (delivers d) ok y e =
     let f = delivery-passed (x .shelf) (length (x .area)) (d .pid) (d .bytes) (i .0) (i .1) in
     subst (λ (r : After ℕ). Moves x (delivers d) true (record { shelf = r .shelf; area = areaAfter (x .area) (d .bytes) (r .outcome) })) (sym (f .is)) (delivery-moves x d f)
 
-pub step-law : StepLaw
+own-moves : (x : State) (t : Turn) → Obeys x → ownOr14 (length (x .area)) (t .lent) ≡ true → Moves x (t .call) (accepted (step x t .answer)) (step x t .next)
 unfolding step
-step-law x t ok y = let m = go (accepted (step x t .answer)) refl in
-    record { keeps = m .keeps; size = m .size; views = m .views; promises = m .promises }
+own-moves x t ok y = go (accepted (step x t .answer)) refl
   where
     go : (b : Bool) → accepted (step x t .answer) ≡ b → Moves x (t .call) b (step x t .next)
     go true e = accepted-moves x (t .lent) (t .call) ok y e
     go false e = subst (Moves x (t .call) false) (sym (refused-stays x t e)) (no-move x (t .call) ok)
+
+-- ---- any lent memory: what does not depend on the area
+record Settles (x : State) (c : Call) (y : Bool) (z : State) : Type 0 where
+  keeps : Obeys z
+  size : length (z .area) ≡ length (x .area)
+  quotas : (k : Asked) → quotaIn (viewIn z k) ≡ quotaNext k c y (quotaIn (viewIn x k))
+  promises : promised (z .shelf) + quotaClosed c y (λ k. quotaIn (viewIn x k)) ≡ promised (x .shelf) + quotaOpened c y
+
+own-settles : (x : State) (t : Turn) → Obeys x → ownOr14 (length (x .area)) (t .lent) ≡ true → Settles x (t .call) (accepted (step x t .answer)) (step x t .next)
+own-settles x t ok y =
+    let m = own-moves x t ok y in
+    record { keeps = m .keeps; size = m .size; quotas = λ k. ap quotaIn (m .views k) ∙ quota-next k (t .call) _ (viewIn x k); promises = m .promises }
+
+-- a memory that is not the shelf's area changes its records as an area of these bytes would; the shelf's own area stays
+abbrev withArea : State → List ℕ → State
+withArea x l = record { shelf = x .shelf; area = l }
+
+lent-elsewhere : (x : State) (l : List ℕ) (c : Call)
+    → stepOn x (other l) l c ≡ record { answer = stepOn (withArea x l) own l c .answer; next = withArea (stepOn (withArea x l) own l c .next) (x .area) }
+unfolding stepOn
+lent-elsewhere x l (opens o) = refl
+lent-elsewhere x l (closes c) = refl
+lent-elsewhere x l (asks q) = refl
+lent-elsewhere x l (fetches g) = refl
+lent-elsewhere x l (delivers d) = refl
+
+settles-elsewhere : (x : State) (l : List ℕ) (c : Call) (y : Bool) (z : State) → length l ≡ length (x .area) → Settles (withArea x l) c y z
+    → Settles x c y (withArea z (x .area))
+settles-elsewhere x l c y z e s = record {
+  keeps = subst (λ (n : ℕ). obeys (z .shelf) n ≡ true) (s .size ∙ e) (s .keeps);
+  size = refl;
+  quotas = λ k. quota-elsewhere (z .shelf) (x .area) (z .area) k ∙ s .quotas k ∙ ap (quotaNext k c y) (quota-elsewhere (x .shelf) l (x .area) k);
+  promises = subst (λ (f : Asked → ℕ). promised (z .shelf) + quotaClosed c y f ≡ promised (x .shelf) + quotaOpened c y) (λ i k. quota-elsewhere (x .shelf) l (x .area) k i) (s .promises);
+}
+
+settles : (x : State) (t : Turn) → Obeys x → Settles x (t .call) (accepted (step x t .answer)) (step x t .next)
+unfolding step
+settles x t ok = go (t .lent)
+  where
+    Settled : Step → Type 0
+    Settled r = Settles x (t .call) (accepted (r .answer)) (r .next)
+
+    go : (u : Lent) → Settled (stepOn x u (lentTo x u) (t .call))
+    go own = own-settles x (record { call = t .call; lent = own }) ok refl
+    go (other l) = ⊎-elim
+        (λ e. let q = eqb-true (length l) (length (x .area)) e in
+        subst Settled (sym (lent-elsewhere x l (t .call)))
+        (settles-elsewhere x l (t .call) _ _ q (own-settles (withArea x l) (record { call = t .call; lent = own }) (subst (λ (n : ℕ). obeys (x .shelf) n ≡ true) (sym q) ok) refl)))
+        (λ e. own-settles x (record { call = t .call; lent = other l }) ok (ap not e))
+        (both (eqb (length l) (length (x .area))))
+
+pub step-law : StepLaw
+step-law x t ok = let s = settles x t ok in record { keeps = s .keeps; size = s .size; views = λ y. own-moves x t ok y .views }
+
+pub quotas-law : QuotasLaw
+quotas-law x t k ok = settles x t ok .quotas k
+
+pub promises-law : PromisesLaw
+promises-law x t ok = settles x t ok .promises

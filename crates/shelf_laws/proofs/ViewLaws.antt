@@ -3,7 +3,7 @@ use Prim.Native.Nat.{_<_, _≤_, ℕ}
 use mathlib.Core.Path.{_∙_, _≡_, ap, refl, subst, sym}
 use mathlib.Core.Bool.{Bool, false, true}
 use mathlib.Core.List.{List}
-use mathlib.Core.Option.{none, some}
+use mathlib.Core.Option.{Option, none, some}
 use mathlib.Core.Logic.{⊎-elim}
 use native.Mathlib.Omega.{arith}
 use lib.ListN.{length}
@@ -98,6 +98,16 @@ unfolding view
 view-keep s t a b k r e f =
     ap (λ (n : ℕ). atFirst n (λ i. isOf (watchAt t i) k) (viewAt t b)) r
     ∙ at-cong (s .records) (λ i. isOf (watchAt t i) k) (λ i. isOf (watchAt s i) k) (viewAt t b) (viewAt s a) e f
+
+-- what is told of a key's watch without its sections is told without the area
+pub view-elsewhere : {A : Type 0} (f : Option View → A) (s : Shelf) (a b : List ℕ) (k : Asked) → ((w : ℕ) → f (some (viewAt s a w)) ≡ f (some (viewAt s b w)))
+    → f (view s a k) ≡ f (view s b k)
+unfolding view atFirst
+view-elsewhere f s a b k e = go (watched s k)
+  where
+    go : (c : Bool) → f (pick c (some (viewAt s a (watchOf s k))) none) ≡ f (pick c (some (viewAt s b (watchOf s k))) none)
+    go true = e (watchOf s k)
+    go false = refl
 
 -- the one watch of a key
 pub view-at : (s : Shelf) (area : List ℕ) (a : Asked) (w : ℕ) → w < s .records → isOf (watchAt s w) a ≡ true → ((i : ℕ) → i < w → isOf (watchAt s i) a ≡ false)

@@ -1,12 +1,11 @@
 -- SCOPE 5 and 12.3: the laws of the shelf's calls, as statements. What a call does to the view of a key and what it answers is told by
 -- Views.antt of `shelf`; these say that it is so, and what else stays.
-use Prim.Native.Nat.{ℕ, _+_, _*_}
+use Prim.Native.Nat.{ℕ, _*_}
 use mathlib.Core.Path.{_≡_}
 use mathlib.Core.Bool.{Bool, true, false}
 use mathlib.Core.List.{List}
-use mathlib.Core.Option.{Option, some, none}
+use mathlib.Core.Option.{some, none}
 use lib.ListN.{length}
-use Rattle.logic.specs.Choices.{pick}
 use Rattle.refusal.specs.Outcomes.{refused, result, orRefuse}
 use Rattle.shelf_state.specs.Rules.{obeys, promised, sizesInRange}
 use Rattle.shelf_state.specs.declared.records.Asked.{Asked}
@@ -20,38 +19,17 @@ use Rattle.shelf.specs.Views.{Call, Delivery, View, asks, closes, closingSays, 
 abbrev pub Obeys : State → Type 0
 Obeys x = obeys (x .shelf) (length (x .area)) ≡ true
 
--- ---- the quotas that a call promises and takes back
-abbrev pub quotaIn : Option View → ℕ
-quotaIn none = 0
-quotaIn (some v) = v .quota
-
-unfoldable pub quotaOpened : Call → Bool → ℕ
-quotaOpened (opens o) y = pick y (o .quota) 0
-quotaOpened (closes c) y = 0
-quotaOpened (asks q) y = 0
-quotaOpened (fetches f) y = 0
-quotaOpened (delivers d) y = 0
-
--- by the quotas that the keys have
-unfoldable pub quotaClosed : Call → Bool → (Asked → ℕ) → ℕ
-quotaClosed (opens o) y f = 0
-quotaClosed (closes c) y f = pick y (f (c .key)) 0
-quotaClosed (asks q) y f = 0
-quotaClosed (fetches g) y f = 0
-quotaClosed (delivers d) y f = 0
-
--- ---- one step: the rules are kept, the area keeps its length, the next view of any key is a function of its view, the call and
--- whether the call was accepted, and the places promised move by the quotas opened and closed. (Stays.antt has what else stays)
+-- ---- one step of any call, on a shelf that obeys its rules: they are kept and the area keeps its length, whatever memory the call is lent; and
+-- where nothing else writes the shelf, the next view of any key is a function of its view, the call and whether the call was accepted.
+-- (Promised.antt has the places promised, and Stays.antt what else stays)
 pub record OneStep (x : State) (t : Turn) : Type 0 where
   pub keeps : Obeys (step x t .next)
   pub size : length (step x t .next .area) ≡ length (x .area)
-  pub views : (k : Asked) → viewIn (step x t .next) k ≡ nextView k (t .call) (accepted (step x t .answer)) (viewIn x k)
-  pub promises :
-      promised (step x t .next .shelf) + quotaClosed (t .call) (accepted (step x t .answer)) (λ k. quotaIn (viewIn x k))
-      ≡ promised (x .shelf) + quotaOpened (t .call) (accepted (step x t .answer))
+  pub views : ownOr14 (length (x .area)) (t .lent) ≡ true
+      → (k : Asked) → viewIn (step x t .next) k ≡ nextView k (t .call) (accepted (step x t .answer)) (viewIn x k)
 
 abbrev pub StepLaw : Type 0
-StepLaw = (x : State) (t : Turn) → Obeys x → ownOr14 (length (x .area)) (t .lent) ≡ true → OneStep x t
+StepLaw = (x : State) (t : Turn) → Obeys x → OneStep x t
 
 -- ---- the answers, on a shelf that obeys its rules: by the key's view, and of an opening by what is left too
 unfoldable pub Says : State → Call → Answer → Type 0
