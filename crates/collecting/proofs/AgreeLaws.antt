@@ -10,8 +10,8 @@ use Rattle.lent_laws.proofs.StepLaws.{lent-step, refused-keeps}
 use Rattle.collecting.proofs.FirstHalf.{first-half}
 use Rattle.collecting.proofs.SecondHalf.{from-empty, second-half}
 use Rattle.collecting.proofs.PromisedLaws.{places-promised}
-use Rattle.collecting.specs.Collecting.{Allowed, Build, Complete, Exchange, Heard, NoneRefused, StartsEmpty, Stretch, WholeTable, ToldBy, stateAfter, and-then, end, fetch, history, none-left, recorded, status, goes-on}
-use Rattle.collecting.specs.More.{AgreeingCollect, Agrees, LentHolds, lentBuild, ours, quotasClosed, quotasOpened}
+use Rattle.collecting.specs.Collecting.{Allowed, Build, Complete, Exchange, Heard, NoneRefused, StartsEmpty, Stretch, WholeTable, ToldBy, stateAfter, and-then, end, fetch, history, none-left, recorded, status, goes-on, ours}
+use Rattle.collecting.specs.More.{AgreeingCollect, Agrees, LentHolds, lentBuild, quotasClosed, quotasOpened}
 
 module _ (B : Build) (g : Agrees B) where
   after-is : (x : B .Memory) (ts : List Turn) → B .means (stateAfter B x ts) ≡ stateAfter ours (B .means x) ts

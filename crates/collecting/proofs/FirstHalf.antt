@@ -28,8 +28,7 @@ use Rattle.shelf_laws.proofs.OpenLaws.{opening-passed}
 use Rattle.shelf_laws.proofs.StepLaws.{step-law}
 use Rattle.shelf_laws.proofs.ViewLaws.{none-above, pid-small, same-some, viewed}
 use Rattle.collecting.proofs.TurnLaws.{count-says, own-next, says-bytes, says-delivered, says-status}
-use Rattle.collecting.specs.Collecting.{Allowed, Complete, FirstHalf, Made, NoneRefused, OneOf, Own, Stretch, WholeTable, stateAfter, and-then, deliver, end, fetch, here, none-left, one-more, goes-on, there}
-use Rattle.collecting.specs.More.{ours}
+use Rattle.collecting.specs.Collecting.{Allowed, Complete, FirstHalf, Made, NoneRefused, OneOf, Own, Stretch, WholeTable, stateAfter, and-then, deliver, end, fetch, here, none-left, one-more, goes-on, there, ours}
 
 -- ---- an open watch's key is not opened again
 open-refused : (s : Shelf) (area : ℕ) (a : Asked) (q : ℕ) → watched s a ≡ true → isResult (opened s area a q .outcome) ≡ false

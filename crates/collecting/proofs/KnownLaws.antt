@@ -21,8 +21,7 @@ use Rattle.shelf_laws.proofs.StepLaws.{step-law}
 use Rattle.shelf_laws.proofs.ViewLaws.{viewed}
 use Rattle.collecting.proofs.StretchLaws.{lent-other}
 use Rattle.collecting.proofs.TurnLaws.{says-bytes, says-delivered, says-status}
-use Rattle.collecting.specs.Collecting.{TableSection, deliver, fetch, recorded, status}
-use Rattle.collecting.specs.More.{ours}
+use Rattle.collecting.specs.Collecting.{TableSection, deliver, fetch, recorded, status, ours}
 use Rattle.collecting.specs.Samples.{answersIn, opening}
 
 pub record Known (n : ℕ) (f : Asked → Option View) (x : State) : Type 0 where

@@ -12,8 +12,8 @@ use Rattle.shelf_laws.specs.Laws.{Obeys}
 use Rattle.shelf_laws.specs.Promised.{quotaClosed, quotaIn, quotaNext}
 use Rattle.shelf_laws.proofs.StepLaws.{promises-law, quotas-law, step-law}
 use Rattle.collecting.proofs.TurnLaws.{empty-now}
-use Rattle.collecting.specs.Collecting.{stateAfter, recorded}
-use Rattle.collecting.specs.More.{PlacesPromised, ours, quotasClosed, quotasOpened}
+use Rattle.collecting.specs.Collecting.{stateAfter, recorded, ours}
+use Rattle.collecting.specs.More.{PlacesPromised, quotasClosed, quotasOpened}
 
 closed-cong : (c : Call) (y : Bool) (f g : Asked → ℕ) → ((k : Asked) → f k ≡ g k) → quotaClosed c y f ≡ quotaClosed c y g
 closed-cong c y f g e = ap (quotaClosed c y) (λ i k. e k i)

@@ -29,8 +29,7 @@ use Rattle.shelf_laws.proofs.EmptyLaws.{empty-law}
 use Rattle.collecting.proofs.FirstHalf.{first-half}
 use Rattle.collecting.proofs.StretchLaws.{AllPlain, Harmless, all-plain, of-table, other-key, plain, stretch-of, too-many, unsound}
 use Rattle.collecting.proofs.KnownLaws.{Answers, Known, answers-end, answers-next, gives-bytes, goes, hearing, hears-it, refuses-14, refuses-19, refuses-before, refuses-for, tells-status}
-use Rattle.collecting.specs.Collecting.{Complete, Made, NoneRefused, Own, TableSection, Stretch, WholeTable, stateAfter, deliver, here, no-more, one-more, recorded, there}
-use Rattle.collecting.specs.More.{ours}
+use Rattle.collecting.specs.Collecting.{Complete, Made, NoneRefused, Own, TableSection, Stretch, WholeTable, stateAfter, deliver, here, no-more, one-more, recorded, there, ours}
 use Rattle.collecting.specs.Samples.{answers, answersIn, damaged, eit, eitHeader, eitKey, emptyState, fresh, mine, opening, section, start, theirs, turns}
 use Rattle.eit.specs.Walked as E
 

@@ -21,8 +21,8 @@ use Rattle.shelf_laws.specs.Laws.{Obeys, OneStep}
 use Rattle.shelf_laws.proofs.StepLaws.{step-law}
 use Rattle.shelf_laws.proofs.ViewLaws.{unheard-empty}
 use Rattle.collecting.proofs.TurnLaws.{count-says, empty-now, own-next, says-bytes, says-status}
-use Rattle.collecting.specs.Collecting.{FromEmpty, Heard, Own, ToldBy, stateAfter, bytesTold, continues, history, historyNext, heardWith, newest, newestOr22, occurs, one-more, recorded, run, statusTold}
-use Rattle.collecting.specs.More.{CompleteOnlyThen, EachAccepted, SecondHalf, nothingYet, ours}
+use Rattle.collecting.specs.Collecting.{FromEmpty, Heard, Own, ToldBy, stateAfter, bytesTold, continues, history, historyNext, heardWith, newest, newestOr22, occurs, one-more, recorded, run, statusTold, ours}
+use Rattle.collecting.specs.More.{CompleteOnlyThen, EachAccepted, SecondHalf, nothingYet}
 
 -- ---- a view that the sections heard tell
 abbrev EditionIs : List Heard → Edition → Type 0

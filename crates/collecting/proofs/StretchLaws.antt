@@ -17,8 +17,7 @@ use Rattle.shelf_laws.proofs.AnswerLaws.{broken-law}
 use Rattle.shelf_laws.proofs.StepLaws.{other-breaks, step-law}
 use Rattle.collecting.proofs.FirstHalf.{turned}
 use Rattle.collecting.proofs.TurnLaws.{own-next, says-delivered}
-use Rattle.collecting.specs.Collecting.{Allowed, OneOf, Own, Stretch, WholeTable, end, one-more, goes-on}
-use Rattle.collecting.specs.More.{ours}
+use Rattle.collecting.specs.Collecting.{Allowed, OneOf, Own, Stretch, WholeTable, end, one-more, goes-on, ours}
 
 -- ---- another memory, of another length
 module _ (x : State) (l : List ℕ) (ok : Obeys x) (lent : ownOr14 (length (x .area)) (other l) ≡ true) where

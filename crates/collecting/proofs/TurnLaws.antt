@@ -19,8 +19,7 @@ use Rattle.shelf.specs.Steps.{State, Turn, did, gave, step, reported, viewIn}
 use Rattle.shelf_laws.specs.Laws.{Empty, Obeys, Says, OneStep}
 use Rattle.shelf_laws.proofs.EmptyLaws.{empty-law}
 use Rattle.shelf_laws.proofs.StepLaws.{answer-law}
-use Rattle.collecting.specs.Collecting.{Own, StartsEmpty, deliver, fetch, status}
-use Rattle.collecting.specs.More.{ours}
+use Rattle.collecting.specs.Collecting.{Own, StartsEmpty, deliver, fetch, status, ours}
 
 -- ---- answers
 module _ (x : State) (k : Asked) (ok : Obeys x) where

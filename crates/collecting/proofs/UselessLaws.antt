@@ -35,8 +35,8 @@ use Rattle.shelf_laws.proofs.ViewLaws.{never-some, view-elsewhere}
 use Rattle.collecting.proofs.KnownLaws.{Known, hearing, hears-it, tells-status}
 use Rattle.collecting.proofs.SampleLaws.{eit-key, empty-known, fresh-known, freshViews, room, table}
 use Rattle.collecting.proofs.SecondHalf.{second-half}
-use Rattle.collecting.specs.Collecting.{Allowed, Build, Complete, Exchange, FirstHalf, Made, NoneRefused, Own, Stretch, stateAfter, and-then, deliver, end, fetch, history, here, no-more, one-more, recorded, status, statusTold, goes-on, there}
-use Rattle.collecting.specs.More.{SecondHalf, Silent, byValue, nothingYet, ours}
+use Rattle.collecting.specs.Collecting.{Allowed, Build, Complete, Exchange, FirstHalf, Made, NoneRefused, Own, Stretch, stateAfter, and-then, deliver, end, fetch, history, here, no-more, one-more, recorded, status, statusTold, goes-on, there, byValue, ours}
+use Rattle.collecting.specs.More.{SecondHalf, Silent, nothingYet}
 use Rattle.collecting.specs.Samples.{eit, eitHeader, emptyState, fresh, mine, opening, section, theirs}
 use Rattle.collecting.specs.Useless.{Calls, completeAtLast, constant, hasHeard, keepsFirstBytes, keepsNoBytes, madeUp, refusesAll, retold, storesFirst, storesNothing, telling}
 

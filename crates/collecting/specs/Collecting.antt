@@ -17,7 +17,7 @@ use Rattle.shelf_state.specs.Records.{sameKey}
 use Rattle.shelf_state.specs.declared.records.Asked.{Asked}
 use Rattle.shelf.specs.Views.{Status, complete, held, unheard, Call, Closing, Delivery, View, asks, closes, delivers, fetches, isSome, judged, keyIn, opens}
 use Rattle.shelf.specs.Calls.{made}
-use Rattle.shelf.specs.Steps.{Answer, State, Turn, accepted, did, gave, own, ownOr14, reported, viewIn}
+use Rattle.shelf.specs.Steps.{Answer, State, Step, Turn, accepted, did, gave, own, ownOr14, reported, step, viewIn}
 use Rattle.shelf_laws.specs.Laws.{Obeys}
 
 -- ---- builds: their memory, the shelf and area that it means, and what a call answers and leaves
@@ -29,6 +29,13 @@ pub record Build : Type 1 where
   pub Memory : Type 0
   pub means : Memory → State
   pub turn : Memory → Turn → Turned Memory
+
+-- this library's build: the shelf's own calls, whose memory is the shelf and the area themselves. (Those on lent memory: More.antt)
+abbrev pub byValue : (State → Turn → Step) → Build
+byValue f = record { Memory = State; means = λ x. x; turn = λ x t. record { answer = f x t .answer; next = f x t .next } }
+
+abbrev pub ours : Build
+ours = byValue step
 
 -- ---- stretches of calls: the memory that they leave; and the calls of which the demand speaks, to which the shelf's own area is lent
 unfoldable pub stateAfter : (B : Build) → B .Memory → List Turn → B .Memory

@@ -10,7 +10,7 @@ use Rattle.refusal.specs.Outcomes.{result}
 use Rattle.shelf_state.specs.Rules.{promised}
 use Rattle.shelf_state.specs.declared.records.Asked.{Asked}
 use Rattle.shelf.specs.Views.{complete, View}
-use Rattle.shelf.specs.Steps.{State, Step, Turn, accepted, reported, step, viewIn}
+use Rattle.shelf.specs.Steps.{State, Turn, accepted, reported, step, viewIn}
 use Rattle.shelf_laws.specs.Laws.{Obeys}
 use Rattle.shelf_laws.specs.Promised.{quotaClosed, quotaNext, quotaOpened}
 use Rattle.lent_memory.specs.Meaning.{LentState}
@@ -58,13 +58,6 @@ quotasClosed f (e ∷ es) =
 abbrev pub PlacesPromised : Build → Type 0
 PlacesPromised B = (x : B .Memory) (ts : List Turn) → StartsEmpty B x
     → promised (B .means (stateAfter B x ts) .shelf) + quotasClosed (λ k. 0) (recorded B x ts) ≡ quotasOpened (recorded B x ts)
-
--- ---- the calls by value are a build whose memory is the shelf and the area themselves
-abbrev pub byValue : (State → Turn → Step) → Build
-byValue f = record { Memory = State; means = λ x. x; turn = λ x t. record { answer = f x t .answer; next = f x t .next } }
-
-abbrev pub ours : Build
-ours = byValue step
 
 -- ---- a build that answers and leaves what the calls by value do, of the shelf and area that its memory means, keeps all of these
 pub record Agrees (B : Build) : Type 0 where

@@ -11,8 +11,7 @@ use Rattle.shelf_state.specs.declared.records.Asked.{Asked}
 use Rattle.shelf.specs.Views.{complete, held, delivers, opens}
 use Rattle.shelf.specs.Calls.{made}
 use Rattle.shelf.specs.Steps.{Answer, State, Turn, did, gave, other, reported}
-use Rattle.collecting.specs.Collecting.{Exchange, stateAfter, deliver, fetch, status, to}
-use Rattle.collecting.specs.More.{ours}
+use Rattle.collecting.specs.Collecting.{Exchange, stateAfter, deliver, fetch, status, to, ours}
 
 -- ---- sections: EITs without events, current, of a source
 abbrev pub eitKey : ℕ → ℕ → Asked
