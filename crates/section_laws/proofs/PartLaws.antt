@@ -36,14 +36,14 @@ use Rattle.entry.specs.declared.Entry.the-variants.{Table, Channel, Dimension, 
 use Rattle.entry.specs.Records.{kindOfEntry, recordOf, entriesOf, beginOf, ofEntry, ofValue}
 use Rattle.entry.proofs.RecordLaws.{entries-stand}
 use Rattle.section_laws.specs.Told.{valueTold, descriptorTold}
-use Rattle.section_laws.specs.Parts.{Stands, contentPart, contentTold, PartsHold}
+use Rattle.section_laws.specs.Parts.{StandsThere, contentPart, contentTold, PartsHold}
 use Rattle.section_laws.proofs.AskedLaws.{region-text}
 
 -- ---- of entry i: what stands there for every entry stands there for that
 module _ (e : Entry) {A : Type 0} (told : ℕ → recordOf e .Val → Outcome A) (part : A → Part) (says : ℕ → recordOf e .Val → Outcome (List ℕ))
     (there : (y : Section (kindOfEntry e)) → WellFormed (kindOfEntry e) y → (a b : ℕ) (x : recordOf e .Val) → recordOf e .Ok (record {}) x
     → Lies (recordOf e .enc x) (encode y) a → after (told a x) (λ r. result (bytesIn (encode y) (part r))) ≡ says b x) where
-  of-entry : (i : ℕ) → Stands (kindOfEntry e) (ofEntry e told i) part (ofEntry e says i)
+  of-entry : (i : ℕ) → StandsThere (kindOfEntry e) (ofEntry e told i) part (ofEntry e says i)
   unfolding after
   of-entry i y o =
       let g = entries-stand e y o in
@@ -55,7 +55,7 @@ module _ (e : Entry) {A : Type 0} (told : ℕ → recordOf e .Val → Outcome A)
 module _ (part : ValueTexts → Part) (of : ValueFields → text .Val)
     (there : (y : Section Rrt) → WellFormed Rrt y → (a : ℕ) (v : ValueFields) → valueFormat .Ok (record {}) v → Lies (valueFormat .enc v) (encode y) a
     → bytesIn (encode y) (part (textsFor a v)) ≡ text .enc (of v)) where
-  of-value : (i j : ℕ) → Stands Rrt (valueTold i j) part (ofEntry Dimension (ofValue (λ a v. result (text .enc (of v))) j) i)
+  of-value : (i j : ℕ) → StandsThere Rrt (valueTold i j) part (ofEntry Dimension (ofValue (λ a v. result (text .enc (of v))) j) i)
   unfolding after
   of-value i j = of-entry Dimension _ part _
       (λ y o d b x p l.
@@ -69,7 +69,7 @@ module _ (part : ValueTexts → Part) (of : ValueFields → text .Val)
       i
 
 -- of descriptor k of event i
-of-descriptor : (i k : ℕ) → Stands Eit (descriptorTold i k) contentPart
+of-descriptor : (i k : ℕ) → StandsThere Eit (descriptorTold i k) contentPart
     (ofEntry Event (λ a e. contentTold k (descriptorsOf contentAdvisory (e .descs))) i)
 unfolding after descriptorFor
 of-descriptor i k = of-entry Event (λ a e. orNone (descriptorFor contentAdvisory k (descriptorsPlace a e .start) (descriptorsOf contentAdvisory (e .descs)))) contentPart _

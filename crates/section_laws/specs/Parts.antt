@@ -19,8 +19,8 @@ use Rattle.entry.specs.Records.{ofEntry, ofValue}
 use Rattle.section_laws.specs.Told.{mgtTold, definedTold, tvctTold, channelTold, rrtTold, dimensionTold, valueTold, eventTold, descriptorTold, placeTold, ettTold}
 
 -- at a part of what is told of a record, its encoding has the bytes of this field; where nothing is told, the field is refused alike
-abbrev pub Stands : (k : Kind) {A : Type 0} → (Section k → Outcome A) → (A → Part) → (Section k → Outcome (List ℕ)) → Type 0
-Stands k told part field = (y : Section k) → WellFormed k y → after (told y) (λ x. result (bytesIn (encode y) (part x))) ≡ field y
+abbrev pub StandsThere : (k : Kind) {A : Type 0} → (Section k → Outcome A) → (A → Part) → (Section k → Outcome (List ℕ)) → Type 0
+StandsThere k told part field = (y : Section k) → WellFormed k y → after (told y) (λ x. result (bytesIn (encode y) (part x))) ≡ field y
 
 -- where the content of a descriptor stands that is told
 abbrev pub contentPart : Descriptor → Part
@@ -32,32 +32,32 @@ contentTold k ds = nthOf (descriptorBytes contentAdvisory) (λ a d. result (cont
 
 pub record PartsHold : Type 0 where
   -- ---- the MGT: its own descriptors, and those of defined table i
-  pub mgtDescriptors : Stands Mgt mgtTold (λ t. t .descriptors) (λ y. result (descriptors noTag .enc (y .body .descs)))
+  pub mgtDescriptors : StandsThere Mgt mgtTold (λ t. t .descriptors) (λ y. result (descriptors noTag .enc (y .body .descs)))
   pub definedDescriptors : (i : ℕ)
-      → Stands Mgt (definedTold i) (λ d. d .descriptors) (ofEntry Table (λ a x. result (descriptors noTag .enc (x .descs))) i)
+      → StandsThere Mgt (definedTold i) (λ d. d .descriptors) (ofEntry Table (λ a x. result (descriptors noTag .enc (x .descs))) i)
   -- ---- the TVCT: its own descriptors, and those of channel i
-  pub tvctDescriptors : Stands Tvct tvctTold (λ t. t .descriptors) (λ y. result (descriptors noTag .enc (y .body .descs)))
+  pub tvctDescriptors : StandsThere Tvct tvctTold (λ t. t .descriptors) (λ y. result (descriptors noTag .enc (y .body .descs)))
   pub channelDescriptors : (i : ℕ)
-      → Stands Tvct (channelTold i) (λ c. c .descriptors) (ofEntry Channel (λ a x. result (descriptors noTag .enc (x .descs))) i)
+      → StandsThere Tvct (channelTold i) (λ c. c .descriptors) (ofEntry Channel (λ a x. result (descriptors noTag .enc (x .descs))) i)
   -- ---- the RRT: the region's name, its own descriptors, the name of dimension i, and the two texts of value j of that
-  pub regionName : Stands Rrt rrtTold (λ t. t .name) (λ y. result (text .enc (y .body .name)))
-  pub rrtDescriptors : Stands Rrt rrtTold (λ t. t .descriptors) (λ y. result (descriptors noTag .enc (y .body .descs)))
-  pub dimensionName : (i : ℕ) → Stands Rrt (dimensionTold i) (λ d. d .name) (ofEntry Dimension (λ d x. result (text .enc (x .name))) i)
+  pub regionName : StandsThere Rrt rrtTold (λ t. t .name) (λ y. result (text .enc (y .body .name)))
+  pub rrtDescriptors : StandsThere Rrt rrtTold (λ t. t .descriptors) (λ y. result (descriptors noTag .enc (y .body .descs)))
+  pub dimensionName : (i : ℕ) → StandsThere Rrt (dimensionTold i) (λ d. d .name) (ofEntry Dimension (λ d x. result (text .enc (x .name))) i)
   pub shortText : (i j : ℕ)
-      → Stands Rrt (valueTold i j) (λ v. v .«short_text») (ofEntry Dimension (ofValue (λ a v. result (text .enc (v .short))) j) i)
+      → StandsThere Rrt (valueTold i j) (λ v. v .«short_text») (ofEntry Dimension (ofValue (λ a v. result (text .enc (v .short))) j) i)
   pub longText : (i j : ℕ)
-      → Stands Rrt (valueTold i j) (λ v. v .«long_text») (ofEntry Dimension (ofValue (λ a v. result (text .enc (v .long))) j) i)
+      → StandsThere Rrt (valueTold i j) (λ v. v .«long_text») (ofEntry Dimension (ofValue (λ a v. result (text .enc (v .long))) j) i)
   -- ---- the EIT: of event i the title (its place is told where it has strings, and in every row), the descriptors, the content of
   -- descriptor k, and the text of a region in the first content advisory
   pub title : (i : ℕ)
-      → Stands Eit (ofEntry Event (λ a e. result (titlePlace a e)) i) (λ p. p) (ofEntry Event (λ a e. result (text .enc (e .title))) i)
+      → StandsThere Eit (ofEntry Event (λ a e. result (titlePlace a e)) i) (λ p. p) (ofEntry Event (λ a e. result (text .enc (e .title))) i)
   pub eventDescriptors : (i : ℕ)
-      → Stands Eit (eventTold i) (λ e. e .descriptors) (ofEntry Event (λ a e. result (descriptors contentAdvisory .enc (e .descs))) i)
+      → StandsThere Eit (eventTold i) (λ e. e .descriptors) (ofEntry Event (λ a e. result (descriptors contentAdvisory .enc (e .descs))) i)
   pub content : (i k : ℕ)
-      → Stands Eit (descriptorTold i k) contentPart
+      → StandsThere Eit (descriptorTold i k) contentPart
       (ofEntry Event (λ a e. contentTold k (descriptorsOf contentAdvisory (e .descs))) i)
   pub regionText : (i region : ℕ)
-      → Stands Eit (placeTold i region) (λ p. p)
+      → StandsThere Eit (placeTold i region) (λ p. p)
       (ofEntry Event (λ a e. after (orNone (textBy region (descriptorsOf contentAdvisory (e .descs)))) (λ t. result (text .enc t))) i)
   -- ---- the ETT: its text
-  pub extendedText : Stands Ett ettTold (λ t. t .text) (λ y. result (structure .enc (y .body .text)))
+  pub extendedText : StandsThere Ett ettTold (λ t. t .text) (λ y. result (structure .enc (y .body .text)))
