@@ -133,7 +133,7 @@ node-right (suc k) m u n rows (b ∷ bs) e (more l h) =
     at-node k m u n b rows bs (a .own) l (a .on)
     (at-child k m u v (by b rows) bs h (λ f. node-right k m u v (by b rows) bs f h) (leb 128 v) (a .below b l))
 
--- where all rows go on by a bit, a row has a first digit, which is one
+-- where all rows go on by a bit, a row has a first digit, and it is a bit
 first-bit : (rows : List Code) (p s b : ℕ) (c : List ℕ) → goOn rows ≡ true → HasRow rows (code p s (b ∷ c)) → b < 2
 unfolding goOn HasRow
 first-bit [] p s b c g r = absurd r
@@ -175,7 +175,7 @@ row-of (code q x d ∷ rows) p s c (inr r) = kept (eqb q p) (code q x d) (code p
 
 row-meant : (rows : List Code) (p : ℕ) (row : Code) → HasRow rows row → HasRow (meant p rows) row
 unfolding meant
-row-meant rows p row r = kept (escapeAlone rows) (code p 27 (0 ∷ [])) row rows (inr r)
+row-meant rows p row r = kept (escapeAlone rows) _ row rows (inr r)
 
 -- the one row that ends here is the one that is there
 row-ends : (v : ℕ) (rows : List Code) (p s : ℕ) (c : List ℕ) → endsFor v rows ≡ true → HasRow rows (code p s c) → (c ≡ []) × (v ≡ s)
@@ -237,7 +237,9 @@ module _ (k : ℕ) (t : List ℕ) (list : List Code) where
   means a =
       record {
         alike = λ p l bs h. right a p l bs h .same;
-        gives = λ p s c bs l r. node-gives k (nodes t p) (tree t p) 0 p s (meant p (codesOf list p)) c bs (at a p l .1) (row-meant (codesOf list p) p (code p s c) (row-of list p s c r));
+        gives = λ p s c bs l r.
+            let m = row-meant (codesOf list p) p (code p s c) (row-of list p s c r) in
+            node-gives k (nodes t p) (tree t p) 0 p s (meant p (codesOf list p)) c bs (at a p l .1) m;
         sound = λ p l bs h. right a p l bs h .sound;
         inside = λ p l bs h. right a p l bs h .inside;
         ends = λ p l bs h. right a p l bs h .ends;
