@@ -1,6 +1,8 @@
 -- SCOPE 4.9 and 4.11: the codes' meaning is the printed list. This page says what a list of rows (prior symbol, symbol, code)
 -- makes of bits; the lists themselves are Printed1 and Printed2.
 use Prim.Native.Nat.{ℕ}
+use mathlib.Core.Path.{_≡_}
+use mathlib.Core.Logic.{_⊎_}
 use mathlib.Core.List.{List, [], _∷_}
 use mathlib.Core.Bool.{Bool, true, false}
 use lib.Dec.{eqb}
@@ -9,6 +11,11 @@ use Rattle.logic.specs.Loops.{_&_}
 -- a printed row: the prior symbol, the symbol that follows it, its code
 pub data Code : Type 0 where
   code : ℕ → ℕ → List ℕ → Code
+
+-- the list has this row
+unfoldable pub HasRow : List Code → Code → Type 0
+HasRow [] row = ⊥
+HasRow (first ∷ rows) row = (first ≡ row) ⊎ HasRow rows row
 
 -- what reading one coded symbol finds: the symbol and the bits that are left, or bits that end early
 pub data Reading : Type 0 where

@@ -1,9 +1,9 @@
 -- SCOPE 4.9 to 4.11: what is shown of a decode table and its printed list.
 use mathlib.Core.Path.{_≡_}
 use Prim.Native.Nat.{ℕ, _*_, _<_, _≤_}
-use mathlib.Core.List.{List, [], _∷_}
+use mathlib.Core.List.{List, [], _∷_, _++_}
 use lib.ListN.{length, take}
-use Rattle.annex_c.specs.Codes.{Code, Reading, symbol, early, codesOf, escapeAlone, printed}
+use Rattle.annex_c.specs.Codes.{Code, code, HasRow, Reading, symbol, early, codesOf, escapeAlone, printed}
 use Rattle.annex_c.specs.Tree.{tree, nodes, walk, walked}
 use Rattle.annex_c.specs.Test.{pair155}
 
@@ -21,6 +21,8 @@ SoundReading early = Unit {0}
 pub record Means (t : List ℕ) (k : ℕ) (list : List Code) : Type 0 where
   -- the tree reads what the printed list says
   pub alike : (p : ℕ) → p < 128 → (bs : List ℕ) → Bits bs → walked t p bs ≡ printed list p bs
+  -- every printed code gives its symbol, whatever follows it
+  pub gives : (p s : ℕ) (c bs : List ℕ) → p < 128 → HasRow list (code p s c) → walked t p (c ++ bs) ≡ symbol s bs
   pub sound : (p : ℕ) → p < 128 → (bs : List ℕ) → Bits bs → SoundReading (walked t p bs)
   -- the tree's own bytes are enough: no child stands outside
   pub inside : (p : ℕ) → p < 128 → (bs : List ℕ) → Bits bs → walk (take (2 * nodes t p) (tree t p)) 0 bs ≡ walked t p bs

@@ -1,5 +1,5 @@
 -- SCOPE 4.10: the computed test of a decode table against its printed list, node by node with the rows that lead there: the node stands
--- inside its tree, each row goes on by a bit, and each leaf has just the one row that ends there, for its symbol. So every walk
+-- inside its tree, each row goes on by a bit (0 or 1), and each leaf has just the one row that ends there, for its symbol. So every walk
 -- ends in a leaf, every printed code leads to its symbol and ends on the leaf, and every leaf's path is a printed code.
 use Prim.Native.Nat.{ℕ, zero, suc, _-_}
 use mathlib.Core.List.{List, [], _∷_}
@@ -10,11 +10,11 @@ use Rattle.logic.specs.Inner.{equalBool}
 use Rattle.annex_c.specs.Codes.{Code, code, codesOf, meant, escapeAlone}
 use Rattle.annex_c.specs.Tree.{tree, nodes, child}
 
--- every row has a bit to go on by
+-- every row has a digit to go on by, which is a bit
 unfoldable pub goOn : List Code → Bool
 goOn [] = true
 goOn (code p s [] ∷ rows) = false
-goOn (code p s (c ∷ cs) ∷ rows) = goOn rows
+goOn (code p s (c ∷ cs) ∷ rows) = ltb c 2 & goOn rows
 
 -- the rows that go on by the bit b, without it
 unfoldable pub by : ℕ → List Code → List Code

@@ -1,5 +1,5 @@
-// The decode tables of annex C. A table is handed out whole, to be named once a text and lent from there on: a constant that a
-// leaf names is stored anew at every call.
+// The decode tables of annex C as constants, shown to be the lists of specs/ byte by byte. No decoder names them, since a constant
+// that a leaf names is stored anew at every call: `trees` has the same bytes by a match, shown to be the same lists.
 mod type1;
 mod type2;
 

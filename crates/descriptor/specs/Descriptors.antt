@@ -4,17 +4,12 @@ use Prim.Native.Nat.{ℕ}
 use mathlib.Core.Path.{refl}
 use mathlib.Core.Logic.{_⊎_}
 use mathlib.Core.List.{List, [], _∷_}
-use native.Mathlib.Omega.{arith}
-use lib.ListN.{length}
 use lib.Dec.{eqb}
-use Rattle.format.specs.Formats.{Format, Filling, lastByte, lastButOne, both, filledBy, seq, exact, anyBytes, choice, list, Full, under}
-use Rattle.format.specs.Repeats.{One}
-use Rattle.format.specs.Values.{bits, reserved}
+use Rattle.format.specs.Formats.{Format, Filling, seq, exact, anyBytes, choice, list, under}
+use Rattle.format.specs.Values.{One, bits, reserved}
 use Rattle.format.specs.Named.{named}
-use Rattle.format.specs.Heads.{Tells}
-use Rattle.format.specs.Told.{told, counting, few}
-use Rattle.format.specs.Laws.OfFull.{told-full}
-use Rattle.format.specs.Laws.OfTold.{all8}
+use Rattle.format.specs.Told.{counting, few, tagged}
+use Rattle.format.specs.Laws.OfFull.{tagged-full}
 use Rattle.strings.specs.Strings.{text, sizedText}
 
 -- ---- the content advisory
@@ -59,57 +54,42 @@ advisory =
 -- ---- a descriptor, and a list of them
 -- what stands in a descriptor of a tag: where the tag is the judged one, an advisory that fills it, and else any bytes
 unfoldable pub content : ℕ → Filling ℕ
-content judged = choice (eqb judged) (exact advisory) anyBytes
+content judgedTag = choice (eqb judgedTag) (exact advisory) anyBytes
 
 -- tag 8, length 8, that many bytes
 pub record DescriptorFields : Type 0 where
   pub tag : ℕ
   pub content : AdvisoryFields ⊎ List ℕ
 
--- (a law: the reader behind a head tells its length and its tag)
-pub tag-tells : Tells (bits 8 ∷ []) 8 2 (both lastByte lastButOne) (λ v m. (m, v .0))
-tag-tells h l z = let a = all8 h 1 z in let b = all8 h 0 z in λ i. (a i, b i)
-
--- a tag, and so many bytes of what stands in a descriptor of that tag
-module _ (judged : ℕ) where
-  abbrev pub tagged : Format One
-  tagged = told (bits 8 ∷ []) 8 2 refl (both lastByte lastButOne) (λ v m. (m, v .0)) tag-tells (filledBy 1 (content judged))
-      (λ x. length (content judged .enc x)) (λ v m x o. o .0)
-
-  -- (a law: none is empty)
-  pub tagged-full : Full tagged
-  tagged-full = told-full (bits 8 ∷ []) 8 2 refl (both lastByte lastButOne) (λ v m. (m, v .0)) tag-tells (filledBy 1 (content judged))
-      (λ x. length (content judged .enc x)) (λ v m x o. o .0) (omega arith)
-
 unfoldable pub descriptor : ℕ → Format One
 unfolding content advisory
-descriptor judged =
-    under (tagged judged) {Y = DescriptorFields} (λ d. ((d .tag, record {}), d .content))
+descriptor judgedTag =
+    under (tagged (content judgedTag)) {Y = DescriptorFields} (λ d. ((d .tag, record {}), d .content))
     (λ x. record { tag = x .0 .0; content = x .1 }) (λ x. refl) (λ y. refl)
 
 -- a descriptor list, which fills its container
 unfoldable pub descriptors : ℕ → Filling One
 unfolding descriptor content advisory
-descriptors judged = list (descriptor judged) (λ d o. tagged-full judged ((d .tag, record {}), d .content) o)
+descriptors judgedTag = list (descriptor judgedTag) (λ d o. tagged-full (content judgedTag) ((d .tag, record {}), d .content) o)
 
 -- the descriptors of a list
-unfoldable pub descriptorsOf : (judged : ℕ) → descriptors judged .Val → List DescriptorFields
+unfoldable pub descriptorsOf : (judgedTag : ℕ) → descriptors judgedTag .Val → List DescriptorFields
 unfolding descriptors descriptor
-descriptorsOf judged ds = ds
+descriptorsOf judgedTag ds = ds
 
 -- ---- bytes, and lists with their length
--- the bytes of a region, of a descriptor's content, and of a descriptor
+-- the bytes of a region, of a descriptor's content, and of a descriptor: the `.enc` of their formats, under names that proofs can keep shut
 unfoldable pub regionBytes : RegionFields → List ℕ
 unfolding region
 regionBytes g = region .enc g
 
 unfoldable pub contentBytes : ℕ → DescriptorFields → List ℕ
 unfolding content advisory
-contentBytes judged d = content judged .enc (d .content)
+contentBytes judgedTag d = content judgedTag .enc (d .content)
 
 unfoldable pub descriptorBytes : ℕ → DescriptorFields → List ℕ
 unfolding descriptor
-descriptorBytes judged d = descriptor judged .enc d
+descriptorBytes judgedTag d = descriptor judgedTag .enc d
 
 -- the tag that is judged in the events of an EIT
 abbrev pub contentAdvisory : ℕ

@@ -5,7 +5,7 @@ use mathlib.Core.List.{List}
 use Rattle.bytes_at.specs.Fields.{wordAt}
 use Rattle.part.specs.declared.Part.{Part}
 use Rattle.format.specs.Formats.{Format}
-use Rattle.format.specs.Repeats.{One}
+use Rattle.format.specs.Values.{One}
 use Rattle.format.specs.Told.{sized12, sized10}
 use Rattle.descriptor.specs.Descriptors.{descriptors}
 
@@ -19,8 +19,8 @@ listEnd m s at = at + 2 + wordAt s at % m
 
 -- r 4, descriptors_length 12, and a descriptor list of that length
 unfoldable pub list12 : ℕ → Format One
-list12 judged = sized12 (descriptors judged)
+list12 judgedTag = sized12 (descriptors judgedTag)
 
 -- r 6, descriptors_length 10, and a descriptor list of that length
 unfoldable pub list10 : ℕ → Format One
-list10 judged = sized10 (descriptors judged)
+list10 judgedTag = sized10 (descriptors judgedTag)

@@ -14,9 +14,9 @@ use Rattle.logic.proofs.LoopLaws.{true-false, isnt, same-truth, and-left, and-r
 use Rattle.bytes_at.specs.declared.Walk.{Walk}
 use Rattle.bytes_at.specs.declared.Walk.the-variants.{To, Bad}
 use Rattle.bytes_at.specs.Inner.{Stands}
-use Rattle.format.specs.Repeats.{Bytes, All, encs, One}
+use Rattle.format.specs.Repeats.{Bytes, All, encs}
 use Rattle.format.specs.Formats.{Filling, anyBytes, walksAll}
-use Rattle.format.specs.Values.{bytesOf}
+use Rattle.format.specs.Values.{One, bytesOf}
 use Rattle.format.specs.Laws.OfBytes.{part-length, part-bytes}
 use Rattle.format.specs.Laws.OfValues.{bytes-length}
 use Rattle.format.proofs.RelocationLaws.{own-bytes}

@@ -3,8 +3,7 @@ use Prim.Native.Nat.{ℕ}
 use mathlib.Core.Path.{refl}
 use mathlib.Core.List.{List, [], _∷_}
 use Rattle.format.specs.Formats.{Format, Filling, seq, exact, under, underAll}
-use Rattle.format.specs.Repeats.{One}
-use Rattle.format.specs.Values.{Field, bits, reserved, Vals}
+use Rattle.format.specs.Values.{One, Field, bits, reserved, Vals}
 use Rattle.format.specs.Named.{named}
 use Rattle.format.specs.Told.{counted8, sized8, sized12}
 use Rattle.strings.specs.Strings.{text}

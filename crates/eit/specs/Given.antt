@@ -9,7 +9,7 @@ use Rattle.logic.specs.Loops.{_&_}
 use Rattle.bytes_at.specs.declared.Walk.{Walk}
 use Rattle.bytes_at.specs.declared.Walk.the-variants.{To, Bad}
 use Rattle.format.specs.Formats.{Filling, walksAll}
-use Rattle.format.specs.Repeats.{One}
+use Rattle.format.specs.Values.{One}
 use Rattle.part.specs.declared.Part.{Part}
 use Rattle.part.specs.Parts.{endOf, bytesIn}
 use Rattle.strings.specs.Strings.{text}

@@ -12,7 +12,8 @@ use Rattle.bytes_at.specs.Walks.{many, standing}
 use Rattle.refusal.specs.Outcomes.{Outcome, refused, result, after, orRefuse}
 use Rattle.refusal.proofs.TestLaws.{lets-lt, stops-lt}
 use Rattle.format.specs.Lawful.{Lies}
-use Rattle.format.specs.Repeats.{Bytes, encs, One}
+use Rattle.format.specs.Repeats.{Bytes, encs}
+use Rattle.format.specs.Values.{One}
 use Rattle.format.specs.Formats.{Format, walks}
 use Rattle.format.specs.Listed.{nthOf}
 use Rattle.format.proofs.ListedLaws.{Stand, all-walk, nth-told, nth-absent}

@@ -9,7 +9,7 @@ use Rattle.refusal.specs.Numbers.{numberOf}
 use Rattle.refusal.specs.Outcomes.{Outcome, refused, result, after, orRefuse}
 use Rattle.kind.specs.Kinds.{onlyOf}
 use Rattle.format.specs.Formats.{Format, walks}
-use Rattle.format.specs.Repeats.{One}
+use Rattle.format.specs.Values.{One}
 use Rattle.mgt.specs.Walked.{defined}
 use Rattle.mgt.specs.Fields as mgts
 use Rattle.channel.specs.Walked.{channel}

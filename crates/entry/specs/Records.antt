@@ -3,7 +3,7 @@ use Prim.Native.Nat.{ℕ, _+_}
 use mathlib.Core.List.{List}
 use Rattle.refusal.specs.Outcomes.{Outcome, refused}
 use Rattle.format.specs.Formats.{Format}
-use Rattle.format.specs.Repeats.{One}
+use Rattle.format.specs.Values.{One}
 use Rattle.format.specs.Listed.{nthOf}
 use Rattle.mgt.specs.Format.{definedFormat}
 use Rattle.channel.specs.Format.{channelFormat}

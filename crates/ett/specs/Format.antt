@@ -3,8 +3,7 @@ use Prim.Native.Nat.{ℕ}
 use mathlib.Core.Path.{refl}
 use mathlib.Core.List.{List, [], _∷_}
 use Rattle.format.specs.Formats.{Filling, before, exact, underAll}
-use Rattle.format.specs.Repeats.{One}
-use Rattle.format.specs.Values.{Field, bits}
+use Rattle.format.specs.Values.{One, Field, bits}
 use Rattle.format.specs.Named.{named}
 use Rattle.strings.specs.Strings.{structure}
 

@@ -8,7 +8,8 @@ use Rattle.bytes_at.specs.declared.Walk.the-variants.{To}
 use Rattle.bytes_at.specs.Walks.{many}
 use Rattle.bytes_at.proofs.WalkLaws.{then-to}
 use Rattle.format.specs.Lawful.{Lies}
-use Rattle.format.specs.Repeats.{All, encs, One}
+use Rattle.format.specs.Repeats.{All, encs}
+use Rattle.format.specs.Values.{One}
 use Rattle.format.specs.Laws.OfBytes.{lies-split}
 use Rattle.format.specs.Formats.{Format, walks}
 use Rattle.format.specs.Listed.{nthOf}

@@ -6,11 +6,11 @@ use native.Mathlib.Omega.{arith}
 use lib.ListN.{length}
 use Rattle.bytes_at.specs.Fields.{byteAt, wordAt}
 use Rattle.format.specs.Lawful.{Lies}
-use Rattle.format.specs.Repeats.{Bytes, encs, One}
+use Rattle.format.specs.Repeats.{Bytes, encs}
 use Rattle.format.specs.Formats.{Format, Filling, lastByte, lastWord, through, filled, times, oneOrMore}
 use Rattle.bytes_at.specs.Bits.{bitsAt}
 use Rattle.bytes_at.proofs.BitLaws.{bits-low, byte-bits, word-bits, all-at, low-at}
-use Rattle.format.specs.Values.{Field, reserved, width, Vals}
+use Rattle.format.specs.Values.{One, Field, reserved, width, Vals}
 use Rattle.format.specs.Heads.{valsAt}
 use Rattle.format.specs.Laws.OfTold.{told-there, last-tells, low8-tells, low16-tells}
 use Rattle.format.specs.Told.{sized8, sized12, sized10, counted8, notNone, fewNotNone, counted16}

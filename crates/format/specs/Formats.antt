@@ -16,7 +16,8 @@ use Rattle.logic.specs.Choices.{pick}
 use Rattle.bytes_at.specs.Fields.{byteAt, wordAt}
 use Rattle.bytes_at.specs.Walks.{skipTo, fieldsTo, then, many, ends}
 use Rattle.format.specs.Lawful.{Walker, Lies, Lawful, Fills, unto, total}
-use Rattle.format.specs.Repeats.{Bytes, All, encs, OkOpt, encOpt, OkSum, encSum, One}
+use Rattle.format.specs.Repeats.{Bytes, All, encs, OkOpt, encOpt, OkSum, encSum}
+use Rattle.format.specs.Values.{One}
 use Rattle.format.specs.Laws.OfBytes.{fields-law, raw-law, lies-byte}
 use Rattle.format.specs.Laws.OfHeads.{head-law, seq-law, via-law}
 use Rattle.format.specs.Laws.OfContainers.{filled-law, exact-law, before-law, under-law, any-law, opt-law, choice-law}

@@ -6,9 +6,9 @@ use mathlib.Core.List.{List}
 use native.Mathlib.Omega.{arith}
 use lib.ListN.{length}
 use lib.Seq.{take-length}
-use Rattle.format.specs.Repeats.{Bytes, One}
+use Rattle.format.specs.Repeats.{Bytes}
 use Rattle.format.specs.Formats.{Format, Recast, fields, via}
-use Rattle.format.specs.Values.{Field, width, Vals, Fit, number, bytesOf}
+use Rattle.format.specs.Values.{One, Field, width, Vals, Fit, number, bytesOf}
 use Rattle.format.specs.Heads.{steps, valsAt}
 use Rattle.format.specs.Laws.OfNamed.{below, vals-there, vals-back}
 use Rattle.format.specs.Laws.OfValues.{steps-width, vals-fit, bytes-length, bytes-bytes}

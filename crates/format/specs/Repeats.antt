@@ -7,10 +7,6 @@ use mathlib.Core.Option.{Option, none, some}
 use mathlib.Core.Bool.{Bool, true, false}
 use Rattle.bytes_at.specs.Fields.{byteAt}
 
--- nothing: of which all is said
-abbrev pub One : Type 0
-One = record {}
-
 -- the numbers of s are bytes
 abbrev pub Bytes : List ℕ → Type 0
 Bytes s = (i : ℕ) → byteAt s i < 256

@@ -7,13 +7,13 @@ use mathlib.Core.Path.{_≡_, refl, sym, ap}
 use mathlib.Core.List.{List, [], _∷_, _++_}
 use native.Mathlib.Omega.{arith}
 use lib.ListN.{length}
-use Rattle.format.specs.Repeats.{Bytes, One}
-use Rattle.format.specs.Formats.{Format, Filling, Reader, Recast, lastByte, lastWord, through, head, raw, filled, times, oneOrMore, via}
+use Rattle.format.specs.Repeats.{Bytes}
+use Rattle.format.specs.Formats.{Format, Filling, Reader, Recast, lastByte, lastButOne, lastWord, both, through, head, raw, filled, filledBy, times, oneOrMore, via}
 use Rattle.bytes_at.proofs.BitLaws.{word-bits}
-use Rattle.format.specs.Values.{Field, bits, reserved, width, Vals, headBytes}
+use Rattle.format.specs.Values.{One, Field, bits, reserved, width, Vals, headBytes}
 use Rattle.format.specs.Heads.{steps, valsAt, Tells, OkTold}
 use Rattle.format.specs.Laws.OfValues.{bytes-length, bytes-bytes}
-use Rattle.format.specs.Laws.OfTold.{steps-whole, head-below, told-good, told-onto, told-once, last-tells, low16-tells, low8-tells}
+use Rattle.format.specs.Laws.OfTold.{steps-whole, head-below, told-good, told-onto, told-once, last-tells, low16-tells, low8-tells, tag-tells}
 
 -- ---- the head and what it tells of
 module _ {C : Type 0} (fs : List Field) (n k : ℕ) (whole : width fs + n ≡ 8 * k) (r : Reader k C) (c : Vals fs → ℕ → C)
@@ -86,3 +86,8 @@ abbrev pub sized10 : Filling One → Format One
 sized10 f =
     told (reserved 6 ∷ []) 10 2 refl (through (λ n. n % 1024) lastWord) (λ v m. m) (low16-tells (reserved 6 ∷ []) 0 6 10 refl refl) (filled 2 f)
     (λ x. length (f .enc x)) (λ v m x o. o .0)
+
+-- a tag and a length, of 8 bits each, and so many bytes, which an f fills that is well formed for the tag
+abbrev pub tagged : Filling ℕ → Format One
+tagged f =
+    told (bits 8 ∷ []) 8 2 refl (both lastByte lastButOne) (λ v m. (m, v .0)) tag-tells (filledBy 1 f) (λ x. length (f .enc x)) (λ v m x o. o .0)

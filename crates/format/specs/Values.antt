@@ -2,7 +2,10 @@
 use Prim.Native.Nat.{ℕ, zero, suc, _+_, _-_, _*_, _/_, _%_, _^_, _<_}
 use mathlib.Core.Path.{_≡_}
 use mathlib.Core.List.{List, [], _∷_}
-use Rattle.format.specs.Repeats.{One}
+
+-- nothing: of which all is said
+abbrev pub One : Type 0
+One = record {}
 
 -- a field of so many bits: one that has a meaning, one that is reserved, or a first piece of a longer one
 pub data Field : Type 0 where

@@ -11,7 +11,8 @@ use Rattle.logic.specs.Choices.{pick, ifLt, ifEq}
 use Rattle.refusal.specs.Outcomes.{result, orNone}
 use Rattle.refusal.proofs.OutcomeLaws.{not-both}
 use Rattle.bytes_at.specs.Fields.{byteAt}
-use Rattle.format.specs.Repeats.{One, Bytes}
+use Rattle.format.specs.Repeats.{Bytes}
+use Rattle.format.specs.Values.{One}
 use Rattle.rating.specs.Ratings.{firstMatch, descriptorSize, ratedSize, regionSize, ratingIn, textIn, descriptorIn}
 use Rattle.rating.specs.Values.{Rated, noAdvisory, regionAbsent, dimensionAbsent}
 use Rattle.telling.specs.Told.{noted}

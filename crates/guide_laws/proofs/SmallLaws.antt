@@ -14,7 +14,8 @@ use Rattle.kind.specs.declared.Kind.the-variants.{Mgt, Tvct, Rrt, Eit, Ett}
 use Rattle.kind.specs.Kinds.{limitsOf, onlyOf}
 use Rattle.bytes_at.specs.Fields.{wordAt}
 use Rattle.format.specs.Formats.{walks}
-use Rattle.format.specs.Repeats.{One, Bytes}
+use Rattle.format.specs.Repeats.{Bytes}
+use Rattle.format.specs.Values.{One}
 use Rattle.part.specs.declared.Part.{Part}
 use Rattle.row.specs.Rows.{partRow}
 use Rattle.strings.specs.Places.{textAt, textEnd}

@@ -20,7 +20,7 @@ use Rattle.part.specs.Parts.{bytesIn}
 use Rattle.text.specs.Answers.{amountOf}
 use Rattle.bytes_at.specs.Walks.{standing}
 use Rattle.text.specs.Strings.{stringCount, stringAt, stringReplaced, stringHeading, headingBefore}
-use Rattle.text.specs.Values.{toldFrom}
+use Rattle.text.specs.Replaced.{toldFrom}
 use Rattle.text.specs.Texts.{ofField, fitting, fieldCount, fieldUnits, fieldReplaced, fieldHeading}
 use Rattle.text.proofs.AmountLaws.{none-joined}
 use Rattle.text.proofs.FewLaws.{few-units}

@@ -13,10 +13,11 @@ use Rattle.format.specs.Lawful.{Lies}
 use Rattle.format.specs.Repeats.{Bytes, encs}
 use Rattle.format.specs.Laws.OfBytes.{lies-split}
 use Rattle.format.specs.Laws.OfValues.{bytes-length}
+use Rattle.format.specs.Laws.OfFull.{tagged-full}
 use Rattle.format.specs.Listed.{firstWith, nthOf}
 use Rattle.format.proofs.ListedLaws.{nth-said}
 use Rattle.part.specs.Parts.{bytesIn}
-use Rattle.descriptor.specs.Descriptors.{dimension, region, advisory, content, tagged-full, descriptor, descriptors, descriptorsOf, regionBytes, contentBytes, descriptorBytes, contentAdvisory}
+use Rattle.descriptor.specs.Descriptors.{dimension, region, advisory, content, descriptor, descriptors, descriptorsOf, regionBytes, contentBytes, descriptorBytes, contentAdvisory}
 use Rattle.rating.specs.Ratings.{descriptorSize, ratedSize, regionSize, advisoryIn, regionIn, ratedByRegion, ratedByAdvisory, ratingIn, regionTextAt, textIn, descriptorIn}
 use Rattle.rating.specs.Values.{regionAbsent, dimensionAbsent, noAdvisory, value, byRegion, byAdvisory, ratedBy, regionPlace, placeFrom, textPlace, descriptorFor}
 use Rattle.rating.proofs.FirstLaws.{dimensions-fit, first-none, first-past, none-past, descriptor-here, descriptor-next}
@@ -92,7 +93,7 @@ module _ (s : List ℕ) (z : Bytes s) where
     unfolding descriptors descriptor content advisory descriptorsOf descriptorBytes
     list-there end from ds o l e =
         let f = descriptor contentAdvisory in
-        let n = no-more (f .Ok (record {})) (f .enc) (λ d o. tagged-full contentAdvisory ((d .tag, record {}), d .content) o) ds o in
+        let n = no-more (f .Ok (record {})) (f .enc) (λ d o. tagged-full (content contentAdvisory) ((d .tag, record {}), d .content) o) ds o in
         let b = two s (from + length (encs (f .enc) ds)) in
         first-there (f .Ok (record {})) (f .enc) (λ d. d .tag) s contentAdvisory (descriptorSize s) end told (λ a d. says a (d .content)) absent
         (λ a d o l.

@@ -13,10 +13,10 @@ use Rattle.format.specs.Laws.OfBytes.{lies-at, lies-split}
 use Rattle.format.specs.Laws.OfValues.{bytes-length}
 use Rattle.format.specs.Values.{bits, reserved, headBytes}
 use Rattle.format.specs.Laws.OfNamed.{vals-there}
-use Rattle.format.specs.Laws.OfTold.{told-there, last-tells, low8-tells}
+use Rattle.format.specs.Laws.OfTold.{told-there, last-tells, low8-tells, tag-tells}
 use Rattle.format.proofs.SizedLaws.{sized8-there}
 use Rattle.strings.specs.Strings.{text, sizedText}
-use Rattle.descriptor.specs.Descriptors.{dimension, rated, region, advisory, content, descriptor, tag-tells}
+use Rattle.descriptor.specs.Descriptors.{dimension, rated, region, advisory, content, descriptor}
 use Rattle.rating.specs.Ratings.{regionSize, descriptorSize}
 use Rattle.rating.proofs.DescriptorLaws.{size-taken}
 use Rattle.rating.proofs.MatchLaws.{region-taken}

@@ -62,5 +62,5 @@ textPlace region from ds =
 
 -- descriptor k of a list that begins at `from`: its tag, and where its content stands, behind tag and length
 unfoldable pub descriptorFor : ℕ → ℕ → ℕ → List DescriptorFields → Option Descriptor
-descriptorFor judged k from ds =
-    nthOf (descriptorBytes judged) (λ a d. some (record { tag = d .tag; start = a + 2; size = length (contentBytes judged d) })) none from ds k
+descriptorFor judgedTag k from ds =
+    nthOf (descriptorBytes judgedTag) (λ a d. some (record { tag = d .tag; start = a + 2; size = length (contentBytes judgedTag d) })) none from ds k

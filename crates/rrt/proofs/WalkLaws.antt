@@ -12,7 +12,7 @@ use Rattle.bytes_at.specs.Fields.{byteAt}
 use Rattle.bytes_at.specs.Walks.{fieldsTo, then, many}
 use Rattle.bytes_at.proofs.WalkLaws.{to-is, never, then-inv, ended}
 use Rattle.format.specs.Formats.{Format, walks, walksAll}
-use Rattle.format.specs.Repeats.{One}
+use Rattle.format.specs.Values.{One}
 use Rattle.format.specs.Formats.{oneOrMore}
 use Rattle.format.proofs.FieldLaws.{fields-end, merge}
 use Rattle.strings.specs.Strings.{sizedText}

@@ -3,8 +3,7 @@ use Prim.Native.Nat.{ℕ}
 use mathlib.Core.Path.{refl}
 use mathlib.Core.List.{List, [], _∷_}
 use Rattle.format.specs.Formats.{Format, Filling, seq, exact, under, underAll}
-use Rattle.format.specs.Repeats.{One}
-use Rattle.format.specs.Values.{Field, bits, reserved}
+use Rattle.format.specs.Values.{One, Field, bits, reserved}
 use Rattle.format.specs.Told.{sized8, sized10, fewNotNone, notNone}
 use Rattle.strings.specs.Strings.{text}
 use Rattle.descriptor.specs.Descriptors.{descriptors, noTag}

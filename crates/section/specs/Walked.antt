@@ -3,7 +3,7 @@
 use Rattle.kind.specs.declared.Kind.{Kind}
 use Rattle.kind.specs.declared.Kind.the-variants.{Mgt, Tvct, Rrt, Eit, Ett}
 use Rattle.format.specs.Formats.{Filling}
-use Rattle.format.specs.Repeats.{One}
+use Rattle.format.specs.Values.{One}
 use Rattle.mgt.specs.Walked.{mgt}
 use Rattle.tvct.specs.Walked.{tvct}
 use Rattle.rrt.specs.Walked.{rrt}

@@ -13,7 +13,8 @@ use Rattle.kind.specs.declared.Kind.the-variants.{Eit}
 use Rattle.kind.specs.Kinds.{onlyOf}
 use Rattle.part.specs.declared.Part.{Part}
 use Rattle.strings.specs.Strings.{text, structure, stringsOf}
-use Rattle.text.specs.Values.{toldFrom, unitsOf, replacedOf}
+use Rattle.text.specs.Values.{unitsOf}
+use Rattle.text.specs.Replaced.{replacedOf, toldFrom}
 use Rattle.text.proofs.SoundLaws.{Fair, units-fair}
 use Rattle.text.proofs.ValueLaws.{count-is, units-is}
 use Rattle.eit.specs.declared.event.Title.the-variants.{Text}

@@ -15,7 +15,8 @@ use Rattle.format.specs.Listed.{allOf}
 use Rattle.format.proofs.ListedLaws.{Stand, first-lies, rest-stand}
 use Rattle.strings.specs.Strings.{text, stringsOf}
 use Rattle.text.specs.Strings.{stringUnits, stringReplaced}
-use Rattle.text.specs.Values.{unitsOf, replacedOf}
+use Rattle.text.specs.Values.{unitsOf}
+use Rattle.text.specs.Replaced.{replacedOf}
 use Rattle.text.proofs.ValueLaws.{units-is, replaced-is}
 use Rattle.eit.specs.declared.event.Title.{Title}
 use Rattle.eit.specs.declared.event.Title.the-variants.{None, NoStrings, Text}

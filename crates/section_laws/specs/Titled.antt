@@ -6,7 +6,8 @@ use Rattle.refusal.specs.Outcomes.{Outcome}
 use Rattle.kind.specs.declared.Kind.the-variants.{Eit}
 use Rattle.format.specs.Listed.{allOf}
 use Rattle.strings.specs.Strings.{text, stringsOf}
-use Rattle.text.specs.Values.{unitsOf, replacedOf}
+use Rattle.text.specs.Values.{unitsOf}
+use Rattle.text.specs.Replaced.{replacedOf}
 use Rattle.eit.specs.declared.event.Title.{Title}
 use Rattle.eit.specs.declared.event.Title.the-variants.{None, NoStrings, Text}
 use Rattle.eit.specs.Format.{EventFields, eventFormat}

@@ -6,7 +6,7 @@ use Rattle.refusal.specs.Outcomes.{Outcome, result, after}
 use Rattle.part.specs.Parts.{bytesIn}
 use Rattle.text.specs.declared.answer.Heading.{Heading}
 use Rattle.text.specs.Strings.{stringCount, stringUnits, stringReplaced, stringHeading}
-use Rattle.text.specs.Values.{toldFrom}
+use Rattle.text.specs.Replaced.{toldFrom}
 use Rattle.section_text.specs.declared.field.Which.{Which}
 use Rattle.section_text.specs.Fields.{fieldOf}
 

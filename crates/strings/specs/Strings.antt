@@ -4,8 +4,7 @@ use mathlib.Core.Path.{refl}
 use mathlib.Core.List.{List, [], _∷_}
 use mathlib.Core.Option.{none, some}
 use Rattle.format.specs.Formats.{Format, Filling, opt, under}
-use Rattle.format.specs.Repeats.{One}
-use Rattle.format.specs.Values.{bits}
+use Rattle.format.specs.Values.{One, bits}
 use Rattle.format.specs.Told.{raws, counting, counted8, sized8}
 use Rattle.format.specs.Laws.OfFull.{counting-full}
 

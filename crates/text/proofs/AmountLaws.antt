@@ -15,10 +15,10 @@ use Rattle.strings.specs.Strings.{segment}
 use Rattle.text.specs.declared.answer.Amount.{Amount}
 use Rattle.text.specs.declared.segments.Way.{Way}
 use Rattle.text.specs.Answers.{amountOf}
-use Rattle.text.specs.Segments.{wayOf, replacedBy}
+use Rattle.text.specs.Segments.{wayOf}
 use Rattle.text.specs.Strings.{segmentReplaced, stringAt, joinedReplaced, stringReplaced}
 use Rattle.bytes_at.specs.Walks.{standing}
-use Rattle.text.specs.Values.{toldFrom}
+use Rattle.text.specs.Replaced.{replacedBy, toldFrom}
 
 pub amount-result : (p : ℕ) (us : List ℕ) → amountOf p (result us) ≡ result (record { units = length us; replaced = p })
 unfolding amountOf after

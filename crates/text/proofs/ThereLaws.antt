@@ -18,9 +18,10 @@ use Rattle.format.specs.Laws.OfBytes.{lies-split, fields-fit}
 use Rattle.format.specs.Laws.OfValues.{bytes-length}
 use Rattle.format.specs.Laws.OfTold.{told-there, last-tells}
 use Rattle.strings.specs.Strings.{SegmentFields, StringFields, segment, string}
-use Rattle.text.specs.Segments.{wayOf, replacedBy}
+use Rattle.text.specs.Segments.{wayOf}
 use Rattle.text.specs.Strings.{segmentUnits, segmentReplaced, headingBefore, joinedUnits, joinedReplaced}
-use Rattle.text.specs.Values.{joined, segmentFor, segmentsFor, replacedFor, headingFor, ofString}
+use Rattle.text.specs.Values.{joined, segmentFor, segmentsFor, headingFor, ofString}
+use Rattle.text.specs.Replaced.{replacedBy, replacedFor}
 use Rattle.text.proofs.UnitLaws.{units-at}
 use Rattle.text.proofs.AmountLaws.{told-result}
 use Rattle.bytes_at.proofs.WalkLaws.{standing-to}

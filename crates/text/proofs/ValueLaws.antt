@@ -22,7 +22,8 @@ use Rattle.format.proofs.SizedLaws.{counted8-there}
 use Rattle.format.proofs.RelocationLaws.{own-bytes}
 use Rattle.strings.specs.Strings.{StringFields, segment, string, structure, text, stringsOf}
 use Rattle.text.specs.Strings.{stringCount, stringAt, joinedUnits, stringUnits, joinedReplaced, stringReplaced, stringHeading}
-use Rattle.text.specs.Values.{toldFrom, ofString, headingOf, unitsOf, replacedOf}
+use Rattle.text.specs.Values.{ofString, headingOf, unitsOf}
+use Rattle.text.specs.Replaced.{replacedOf, toldFrom}
 use Rattle.text.specs.Texts.{ofField, fieldCount, fieldUnits, fieldHeading}
 use Rattle.text.proofs.AmountLaws.{told-after}
 use Rattle.text.proofs.TextLaws.{place-there, place-none, field-sound, field-bad}

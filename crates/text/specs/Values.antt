@@ -1,11 +1,11 @@
 -- SCOPE 4.3 to 4.5: what is answered for a text, by the strings and segments of its value.
-use Prim.Native.Nat.{ℕ, zero, suc, _+_}
+use Prim.Native.Nat.{ℕ, zero, suc}
 use mathlib.Core.List.{List, [], _∷_, _++_}
 use lib.ListN.{length}
 use Rattle.refusal.specs.Outcomes.{Outcome, refused, result, after}
 use Rattle.strings.specs.Strings.{SegmentFields, StringFields}
 use Rattle.text.specs.declared.answer.Heading.{Heading}
-use Rattle.text.specs.Segments.{wayOf, unitsBy, replacedBy}
+use Rattle.text.specs.Segments.{wayOf, unitsBy}
 
 -- the units of a segment, by its compression and mode
 abbrev pub segmentFor : SegmentFields → Outcome (List ℕ)
@@ -19,11 +19,6 @@ joined x y = after x (λ us. after y (λ vs. result (us ++ vs)))
 unfoldable pub segmentsFor : List SegmentFields → Outcome (List ℕ)
 segmentsFor [] = result []
 segmentsFor (g ∷ gs) = joined (segmentFor g) (segmentsFor gs)
-
--- how many of them are replaced
-unfoldable pub replacedFor : List SegmentFields → ℕ
-replacedFor [] = 0
-replacedFor (g ∷ gs) = replacedBy (wayOf (g .compression) (g .mode)) + replacedFor gs
 
 -- language and number_segments of a string
 abbrev pub headingFor : StringFields → Heading
@@ -41,12 +36,3 @@ headingOf ss k = ofString (λ x. result (headingFor x)) ss k
 
 abbrev pub unitsOf : List StringFields → ℕ → Outcome (List ℕ)
 unitsOf ss k = ofString (λ x. segmentsFor (x .segments)) ss k
-
--- a number that is told of what was found; 0 where nothing was
-unfoldable pub toldFrom : {A : Type 0} → Outcome A → (A → ℕ) → ℕ
-toldFrom (refused n) k = 0
-toldFrom (result a) k = k a
-
--- how many segments of string k are replaced; 0 where there is none
-abbrev pub replacedOf : List StringFields → ℕ → ℕ
-replacedOf ss k = toldFrom (ofString (λ x. result (replacedFor (x .segments))) ss k) (λ n. n)

@@ -3,7 +3,7 @@ use Prim.Native.Nat.{ℕ}
 use mathlib.Core.Path.{refl}
 use mathlib.Core.List.{List}
 use Rattle.format.specs.Formats.{Filling, seq, exact, underAll}
-use Rattle.format.specs.Repeats.{One}
+use Rattle.format.specs.Values.{One}
 use Rattle.format.specs.Told.{counted8, sized10}
 use Rattle.descriptor.specs.Descriptors.{descriptors, noTag}
 use Rattle.channel.specs.Format.{ChannelFields, channelFormat}

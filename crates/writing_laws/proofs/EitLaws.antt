@@ -10,9 +10,9 @@ use Rattle.logic.proofs.LoopLaws.{and-left, and-right, and-i}
 use Rattle.bytes_at.specs.declared.Walk.the-variants.{To}
 use Rattle.refusal.specs.Outcomes.{result}
 use Rattle.kind.specs.declared.Kind.the-variants.{Eit}
-use Rattle.format.specs.Repeats.{Bytes, All, encs, One}
+use Rattle.format.specs.Repeats.{Bytes, All, encs}
 use Rattle.format.specs.Formats.{Filling, anyBytes}
-use Rattle.format.specs.Values.{Fit, bytesOf}
+use Rattle.format.specs.Values.{One, Fit, bytesOf}
 use Rattle.format.specs.Laws.OfBytes.{part-length}
 use Rattle.format.specs.Laws.OfValues.{bytes-length}
 use Rattle.format.proofs.RelocationLaws.{own-bytes}

@@ -9,7 +9,7 @@ use Rattle.bytes_at.specs.Fields.{byteAt, wordAt}
 use Rattle.format.specs.Lawful.{Lies, total}
 use Rattle.format.specs.Repeats.{Bytes}
 use Rattle.format.specs.Laws.OfBytes.{lies-at, lies-split}
-use Rattle.format.specs.Formats.{Format, Reader, lastByte, lastWord, through}
+use Rattle.format.specs.Formats.{Format, Reader, lastByte, lastButOne, lastWord, both, through}
 use Rattle.bytes_at.specs.Bits.{bitsAt}
 use Rattle.bytes_at.proofs.BitLaws.{bits-lt, bits-add, bits-low, byte-bits, word-bits}
 use Rattle.format.specs.Values.{Field, bits, width, Vals, Fit, number, bytesOf, headBytes}
@@ -107,3 +107,6 @@ low16-tells fs k m n e f h l z = low16 h k m n z e ∙ ap (λ p. bitsAt h p n) (
 
 pub low8-tells : (fs : List Field) (k m n : ℕ) → m + n ≡ 8 → width fs ≡ 8 * k + m → Tells fs n (suc k) (through (λ x. x % 2 ^ n) lastByte) (λ v m. m)
 low8-tells fs k m n e f h l z = low8 h k m n z e ∙ ap (λ p. bitsAt h p n) (omega arith)
+
+pub tag-tells : Tells (bits 8 ∷ []) 8 2 (both lastByte lastButOne) (λ v m. (m, v .0))
+tag-tells h l z = let a = all8 h 1 z in let b = all8 h 0 z in λ i. (a i, b i)

@@ -3,7 +3,7 @@ use mathlib.Core.Path.{refl}
 use Rattle.refusal.specs.Outcomes.{after}
 use Rattle.refusal.specs.Outputs.{outputAfter}
 use Rattle.text.specs.Answers.{amountOf}
-use Rattle.text.specs.Values.{toldFrom}
+use Rattle.text.specs.Replaced.{toldFrom}
 use Rattle.text.specs.Texts.{fitting}
 use Rattle.section_text.specs.Texts.{textUnits, textReplaced}
 use borrow.Author.Needs.{needs}

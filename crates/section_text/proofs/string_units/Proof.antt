@@ -1,7 +1,7 @@
 -- `string_units` meets its contract: where the text stands, then its bytes.
 use Rattle.refusal.specs.Outcomes.{after}
 use Rattle.text.specs.Answers.{amountOf}
-use Rattle.text.specs.Values.{toldFrom}
+use Rattle.text.specs.Replaced.{toldFrom}
 use Rattle.section_text.specs.Texts.{textUnits, textReplaced}
 use borrow.Author.Needs.{needs}
 use Rattle.section_text.proofs.string_units.Statement.{statement}
