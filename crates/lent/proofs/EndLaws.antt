@@ -19,7 +19,7 @@ use Rattle.shelf.specs.Answers.{After}
 use Rattle.shelf.specs.Views.{Status}
 use Rattle.shelf.specs.Calls.{closed, fetched, opened, statusAfter}
 use Rattle.shelf.specs.Delivery.{areaAfter, delivered, delivering}
-use Rattle.lent_memory.specs.Meaning.{blank, lent, meaning, numberAt, recordOf, shelfIn}
+use Rattle.lent_memory.specs.Meaning.{blank, lent, meaning, numberAt, lentRecord, shelfIn}
 use Rattle.lent_memory.specs.Changes.{changedAt, compared, recordPut, recordsAfter, rowsAfter}
 use Rattle.refusal.specs.Outputs.{numberIn}
 use Rattle.lent_memory.specs.Replies.{amountIn, askedIn, partNumbers, replyAfter, callFits, statusNumbers}
@@ -40,9 +40,9 @@ reply-is q y e = eqb-true (length y) 3 (and-right (eqb (length q) 4) (eqb (lengt
 
 -- ---- the ending's record, written, is what the definition writes
 module _ (s t : Shelf) (k : ℕ) (ws : List LentWatch) (h : s .records ≡ length ws) (i n : ℕ) where
-  puts : (b : Bool) → set ws (pick {A = Ending} b (record { number = k; at = i; watch = recordOf (watchAt t i) }) (record { number = k; at = s .records; watch = blank }) .at)
-      (pick {A = Ending} b (record { number = k; at = i; watch = recordOf (watchAt t i) }) (record { number = k; at = s .records; watch = blank }) .watch)
-      ≡ pick b (set ws i (recordOf (watchAt t i))) ws
+  puts : (b : Bool) → set ws (pick {A = Ending} b (record { number = k; at = i; watch = lentRecord (watchAt t i) }) (record { number = k; at = s .records; watch = blank }) .at)
+      (pick {A = Ending} b (record { number = k; at = i; watch = lentRecord (watchAt t i) }) (record { number = k; at = s .records; watch = blank }) .watch)
+      ≡ pick b (set ws i (lentRecord (watchAt t i))) ws
   puts true = refl
   puts false = set-out ws (s .records) blank (omega (arith, h))
 

@@ -15,7 +15,7 @@ use Rattle.shelf_state.specs.Records.{watchAt, placeAt, blankWatch, blankPlace}
 use Rattle.shelf_state.specs.declared.records.Place.{Place}
 use Rattle.shelf_state.specs.declared.records.Watch.{Watch}
 use Rattle.lent_memory.proofs.RowLaws.{clamp-le, rows-fit}
-use Rattle.lent_memory.specs.Meaning.{LentState, blank, clamp, isOn, meaning, recordOf, placeMeant, rowCount, placesMeant, shelfIn, watchMeant, watchesMeant}
+use Rattle.lent_memory.specs.Meaning.{LentState, blank, clamp, isOn, meaning, lentRecord, placeMeant, rowCount, placesMeant, shelfIn, watchMeant, watchesMeant}
 use Rattle.lent_memory.specs.declared.records.LentWatch.{LentWatch}
 
 -- ---- a watch goes to a record and comes back
@@ -23,7 +23,7 @@ pub on-one : (b : Bool) → isOn (one b) ≡ b
 on-one true = refl
 on-one false = refl
 
-pub back : (w : Watch) → watchMeant (recordOf w) ≡ w
+pub back : (w : Watch) → watchMeant (lentRecord w) ≡ w
 back w = λ z. record { live = on-one (w .live) z; key = w .key; quota = w .quota; edition = record { heard = on-one (w .edition .heard) z; version = w .edition .version; last = w .edition .last } }
 
 -- ---- the watches

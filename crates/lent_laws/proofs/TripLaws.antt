@@ -19,7 +19,7 @@ use Rattle.shelf_state.specs.declared.records.Place.{Place}
 use Rattle.shelf_state.specs.declared.records.Shelf.{Shelf}
 use Rattle.lent_memory.proofs.RowLaws.{written-length}
 use Rattle.lent_memory.specs.Changes.{changedAt, compared, equalPlace, equalWatch, recordPut, recordsAfter, rowPut, rowsAfter, rowsBelow, writeRow}
-use Rattle.lent_memory.specs.Meaning.{LentState, blank, clamp, isOn, lent, meaning, numberAt, recordOf, placeMeant, rowCount, watchMeant}
+use Rattle.lent_memory.specs.Meaning.{LentState, blank, clamp, isOn, lent, meaning, numberAt, lentRecord, placeMeant, rowCount, watchMeant}
 use Rattle.lent_memory.specs.declared.records.LentWatch.{LentWatch}
 use Rattle.lent_laws.proofs.EqualLaws.{from-place, from-watch, place-self, watch-self}
 use Rattle.lent_laws.proofs.MeaningLaws.{back, lent-count, lent-places, lent-records, lent-watches, on-one, past-lent, place-lent, row-fits, rowsRead, watch-lent}
@@ -159,7 +159,7 @@ module _ (x : LentState) (t : Shelf) (j : ℕ) (st : Made x t j) (area : List �
   m-is : m ≡ length ws
   m-is = let e = lent-records x in rw (le-ltb 16 (s .records) (omega (arith, e, st .few))) e
 
-  put-some : f < m → ws′ ≡ set ws f (recordOf (watchAt t f))
+  put-some : f < m → ws′ ≡ set ws f (lentRecord (watchAt t f))
   unfolding recordPut
   put-some h = rw (lt-ltb f m h)
 
@@ -178,7 +178,7 @@ module _ (x : LentState) (t : Shelf) (j : ℕ) (st : Made x t j) (area : List �
 
   after-some : f < m → not (equalWatch (watchAt s f) (watchAt t f)) ≡ true → (i : ℕ) → i < 16 → watchMeant (getD ws′ i blank) ≡ watchAt t i
   after-some h p i g =
-      let w = recordOf (watchAt t f) in
+      let w = lentRecord (watchAt t f) in
       ap (λ (v : List LentWatch). watchMeant (getD v i blank)) (put-some h)
       ∙ ⊎-elim
       (λ e. let q : i ≡ f = eqb-true i f e in
@@ -204,7 +204,7 @@ module _ (x : LentState) (t : Shelf) (j : ℕ) (st : Made x t j) (area : List �
 
   records-length : length ws′ ≡ length ws
   unfolding recordPut
-  records-length = pick-length (ltb f m) (set ws f (recordOf (watchAt t f))) (length-set ws f (recordOf (watchAt t f)))
+  records-length = pick-length (ltb f m) (set ws f (lentRecord (watchAt t f))) (length-set ws f (lentRecord (watchAt t f)))
 
   abbrev l′ : List ℕ
   l′ = rowsAfter s t l

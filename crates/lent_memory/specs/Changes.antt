@@ -13,7 +13,7 @@ use Rattle.shelf_state.specs.declared.records.Edition.{Edition}
 use Rattle.shelf_state.specs.declared.records.Place.{Place}
 use Rattle.shelf_state.specs.declared.records.Shelf.{Shelf}
 use Rattle.shelf_state.specs.declared.records.Watch.{Watch}
-use Rattle.lent_memory.specs.Meaning.{clamp, recordOf, rowSize}
+use Rattle.lent_memory.specs.Meaning.{clamp, lentRecord, rowSize}
 use Rattle.lent_memory.specs.declared.records.LentWatch.{LentWatch}
 
 unfoldable pub equalEdition : Edition → Edition → Bool
@@ -30,7 +30,7 @@ abbrev pub changedAt : Shelf → Shelf → ℕ → ℕ
 changedAt s t n = first n (λ i. not (equalWatch (watchAt s i) (watchAt t i)))
 
 unfoldable pub recordPut : ℕ → ℕ → Shelf → List LentWatch → List LentWatch
-recordPut i n t ws = pick (ltb i n) (set ws i (recordOf (watchAt t i))) ws
+recordPut i n t ws = pick (ltb i n) (set ws i (lentRecord (watchAt t i))) ws
 
 -- how many records are compared
 abbrev pub compared : Shelf → ℕ

@@ -11,7 +11,7 @@ use Rattle.shelf_state.specs.Records.{watchAt}
 use Rattle.shelf_state.specs.declared.records.Shelf.{Shelf}
 use Rattle.shelf_state.specs.declared.records.Watch.{Watch}
 use Rattle.shelf.specs.Views.{Status, complete, held, unheard}
-use Rattle.lent_memory.specs.Meaning.{blank, clamp, recordOf, rowSize, watchMeant, watchesMeant}
+use Rattle.lent_memory.specs.Meaning.{blank, clamp, lentRecord, rowSize, watchMeant, watchesMeant}
 use Rattle.lent_memory.specs.Changes.{changedAt, compared}
 use Rattle.lent_memory.specs.declared.records.Book.{Book}
 use Rattle.lent_memory.specs.declared.records.Ending.{Ending}
@@ -31,7 +31,7 @@ Gathered b ws = (b .records ≡ length ws) × (b .watches ≡ watchesMeant 16 ws
 
 -- the record to write; past the end where none changed
 unfoldable pub endingAt : ℕ → ℕ → Shelf → Shelf → ℕ → Ending
-endingAt i n s t k = pick (ltb i n) (record { number = k; at = i; watch = recordOf (watchAt t i) }) (record { number = k; at = s .records; watch = blank })
+endingAt i n s t k = pick (ltb i n) (record { number = k; at = i; watch = lentRecord (watchAt t i) }) (record { number = k; at = s .records; watch = blank })
 
 abbrev pub endingOf : Shelf → Shelf → ℕ → Ending
 endingOf s t k = endingAt (changedAt s t (compared s)) (compared s) s t k

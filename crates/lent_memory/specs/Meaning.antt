@@ -29,8 +29,8 @@ abbrev pub watchMeant : LentWatch → Watch
 watchMeant r = record { live = isOn (r .live); key = r .key; quota = r .quota; edition = record { heard = isOn (r .heard); version = r .version; last = r .last } }
 
 -- as a call writes it
-abbrev pub recordOf : Watch → LentWatch
-recordOf w = record { live = one (w .live); key = w .key; quota = w .quota; heard = one (w .edition .heard); version = w .edition .version; last = w .edition .last }
+abbrev pub lentRecord : Watch → LentWatch
+lentRecord w = record { live = one (w .live); key = w .key; quota = w .quota; heard = one (w .edition .heard); version = w .edition .version; last = w .edition .last }
 
 abbrev pub blank : LentWatch
 blank = record { live = 0; key = blankKey; quota = 0; heard = 0; version = 0; last = 0 }

@@ -8,7 +8,7 @@ use shelf_state::inner::wide;
 ghost use mathlib.Core.Path.{_≡_};
 ghost use lib.ListN.{getD, set};
 ghost use Rattle.logic.specs.Loops.{one};
-ghost use Rattle.lent_memory.specs.Meaning.{blank, isOn, watchMeant, recordOf};
+ghost use Rattle.lent_memory.specs.Meaning.{blank, isOn, watchMeant, lentRecord};
 ghost use Rattle.lent_memory.specs.Inner.{fourAt, sixteen, Gathered};
 
 // A watch record as it is lent: `live` and `heard` are set where they are not 0.
@@ -84,7 +84,7 @@ pub fn watch_meant(r: LentWatch) -> Watch
 }
 
 pub fn record_of(w: Watch) -> LentWatch
-    ensures { λ r. ⌜ r ≡ recordOf w ⌝ }
+    ensures { λ r. ⌜ r ≡ lentRecord w ⌝ }
 {
     let key = w.key;
     let edition = w.edition;

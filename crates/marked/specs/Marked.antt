@@ -56,11 +56,11 @@ eitKey pid source = record { pid = pid; «table_id» = 0xCB; extension = source 
 abbrev pub fourPlaces : Shelf
 fourPlaces = made 4 3 .shelf
 
-abbrev pub opens : Shelf → ℕ → ℕ → After (Unit {0})
-opens s source quota = opened s 16384 (eitKey 0x1D00 source) quota
+abbrev pub opening : Shelf → ℕ → ℕ → After (Unit {0})
+opening s source quota = opened s 16384 (eitKey 0x1D00 source) quota
 
 abbrev pub twoAndTwo : Shelf
-twoAndTwo = opens (opens fourPlaces 1 2 .shelf) 2 2 .shelf
+twoAndTwo = opening (opening fourPlaces 1 2 .shelf) 2 2 .shelf
 
 -- a shelf of one place, with a watch of quota 1 on the EITs above
 abbrev pub quotaOne : Shelf
@@ -122,8 +122,8 @@ Shows P10 =
     × ((delivered quotaOne 4096 0x1D00 (sealed (eit11 0 1)) .outcome ≡ refused 18)
     × (keptOf (sealed (eit11 0 1)) ≡ refused 22)))
 Shows P11 =
-    (opens twoAndTwo 3 1 .outcome ≡ refused 21)
-    × (opens (closed twoAndTwo 16384 (eitKey 0x1D00 1) .shelf) 3 2 .outcome ≡ result tt)
+    (opening twoAndTwo 3 1 .outcome ≡ refused 21)
+    × (opening (closed twoAndTwo 16384 (eitKey 0x1D00 1) .shelf) 3 2 .outcome ≡ result tt)
 Shows P12 = (fieldUnits (utf16 0 []) 0 ≡ result []) × (fieldUnits (utf16 3 (0 ∷ 65 ∷ 0 ∷ [])) 0 ≡ refused 11)
 Shows P13 =
     (opened fourPlaces 16384 (eitKey 8191 7) 1 .outcome ≡ result tt)

@@ -43,6 +43,7 @@ openedInRange s a q =
     (orRefuseWith 21 s (leb (promised s + q) (s .count))
     (answered tt (setWatch s (freeRecord s) (fresh a q)))))
 
+-- a shelf, the length of the memory that is lent as its area, the key, the quota
 unfoldable pub opened : Shelf → ℕ → Asked → ℕ → After (Unit {0})
 opened s area a q =
     orRefuseWith 14 s (obeys s area)
@@ -61,6 +62,7 @@ closed s area a =
 unfoldable pub heldNumbers : Shelf → ℕ → ℕ
 heldNumbers s w = count (watchAt s w .edition .last + 1) (λ m. isHeld s w m)
 
+-- the watch's status
 unfoldable pub statusAfter : Shelf → ℕ → Asked → After Status
 statusAfter s area a =
     orRefuseWith 14 s (obeys s area)
@@ -73,6 +75,7 @@ fetchedFrom s w m =
     orRefuseWith 22 s (isHeld s w m)
     (answered (record { start = placeOf s w m * 4096; length = placeAt s (placeOf s w m) .length }) s)
 
+-- the part of the area where the section of a number stands
 unfoldable pub fetched : Shelf → ℕ → Asked → ℕ → After Part
 fetched s area a m =
     orRefuseWith 14 s (obeys s area)

@@ -70,6 +70,7 @@ byJudge s pid b (result h) = received s (keyIn pid b) h (length b)
 unfoldable pub arriving : Shelf → ℕ → List ℕ → After ℕ
 arriving s pid b = orRefuseWith 15 s (leb pid 8191) (byJudge s pid b (judged b))
 
+-- a shelf, the length of the memory that is lent as its area, the PID, the section's bytes: the place that the section takes
 unfoldable pub delivering : Shelf → ℕ → ℕ → List ℕ → After ℕ
 delivering s area pid b = orRefuseWith 14 s (obeys s area) (arriving s pid b)
 
@@ -81,10 +82,11 @@ done (result i) = result tt
 abbrev pub quiet : After ℕ → After (Unit {0})
 quiet r = record { outcome = done (r .outcome); shelf = r .shelf }
 
+-- the same without the place
 unfoldable pub delivered : Shelf → ℕ → ℕ → List ℕ → After (Unit {0})
 delivered s area pid b = quiet (delivering s area pid b)
 
--- ---- the area: the section's bytes at the start of its place, or nothing
+-- ---- the area with the section's bytes at the start of its place; as it was where the section is refused
 unfoldable pub areaAfter : List ℕ → List ℕ → Outcome ℕ → List ℕ
 areaAfter area b (refused k) = area
 areaAfter area b (result i) = paste area (i * 4096) b (length b)
