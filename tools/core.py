@@ -32,8 +32,12 @@ def scope_rules():
         number = re.match(r"\*\*(\d+\.\d+)\b", part)
         if number:
             told[number.group(1)] = part.strip()
-    for line in re.findall(r"^\| \d+ \| .*\|$", text.split("## 6 ", 1)[1].split("**6.1**", 1)[0], re.M):
+    table = text.split("## 6 ", 1)[1].split("**6.1**", 1)[0]
+    for line in re.findall(r"^\| \d+ \| .*\|$", table, re.M):
         told["number " + line.split("|")[1].strip()] = line
+    # what two chapters say of all their rules
+    told["2.1"] = re.search(r"^## 2 .*?\n\n(.*?)\*\*2\.1", text, re.M | re.S).group(1) + told["2.1"]
+    told["number 9"] += "\n" + table.split("|\n\n")[-1].strip()
     return told
 
 

@@ -37,7 +37,7 @@ many p (suc n) at = then (p at) (many p n)
 unfoldable pub ends : ℕ → ℕ → Walk
 ends end at = pick (eqb at end) (To at) (Bad at)
 
--- where a walk stands, or the refusal of one that does not
+-- where a walk stands, or 9 of one that does not
 unfoldable pub standing : Walk → Outcome ℕ
 standing (To a) = result a
 standing (Bad x) = refused 9

@@ -41,6 +41,7 @@ tuningRow t = t .major ∷ t .minor ∷ t .modulation ∷ t .carrier ∷ t .«ch
 unfoldable pub serviceRow : Service → List ℕ
 serviceRow v = v .«etm_location» ∷ v .«access_controlled» ∷ v .hidden ∷ v .«six_bits» ∷ v .«service_type» ∷ v .«source_id» ∷ []
 
+-- 19 numbers, in the order of the fields
 unfoldable pub numbersRow : Channel → List ℕ
 numbersRow c = nameRow (c .name) ++ (tuningRow (c .tuning) ++ serviceRow (c .service))
 

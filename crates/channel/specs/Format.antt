@@ -28,7 +28,7 @@ pub record ChannelFields : Type 0 where
   pub r2 : ℕ
   pub descs : descriptors noTag .Val
 
--- ---- the record and its fields' numbers, there and back
+-- ---- the numbers of the record's fields
 -- six numbers before others
 abbrev pub six : {A : Type 0} → ℕ → ℕ → ℕ → ℕ → ℕ → ℕ → A → ℕ × (ℕ × (ℕ × (ℕ × (ℕ × (ℕ × A)))))
 six a b c d e f x = (a, (b, (c, (d, (e, (f, x))))))

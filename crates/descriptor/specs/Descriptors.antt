@@ -77,7 +77,7 @@ unfoldable pub descriptorsOf : (judgedTag : ℕ) → descriptors judgedTag .Val 
 unfolding descriptors descriptor
 descriptorsOf judgedTag ds = ds
 
--- ---- bytes, and lists with their length
+-- ---- bytes, and the tag that is judged
 -- the bytes of a region, of a descriptor's content, and of a descriptor: the `.enc` of their formats, under names that proofs can keep shut
 unfoldable pub regionBytes : RegionFields → List ℕ
 unfolding region

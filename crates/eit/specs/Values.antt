@@ -52,7 +52,7 @@ abbrev pub rowFor : ℕ → EventFields → List ℕ
 rowFor a e =
     (e .head .id ∷ e .head .start ∷ e .head .etm ∷ e .head .seconds ∷ []) ++ (partRow (titlePlace a e) ++ partRow (descriptorsPlace a e))
 
--- its reserved bits are ones
+-- its reserved bits are ones, but for those in its title and its descriptor list
 abbrev pub OnesEvent : EventFields → Type 0
 OnesEvent e = Ones eventHead (headOf (e .head)) × (e .r ≡ 15)
 
@@ -61,6 +61,6 @@ OnesEvent e = Ones eventHead (headOf (e .head)) × (e .r ≡ 15)
 abbrev pub fieldsFor : ℕ → EitFields → Table
 fieldsFor extension b = record { source = extension; count = length (b .events) }
 
--- all reserved bits are ones
+-- the reserved bits of its events are ones, but for those in titles and descriptor lists
 abbrev pub OnesEit : EitFields → Type 0
 OnesEit b = All OnesEvent (b .events)

@@ -1,7 +1,8 @@
 -- The language in which every table is defined once. A meaning says which values of a type are well formed, and what bytes a value has; each line of `Language`
 -- gives a word its meaning: a value of a format is one of `.Val`, it is well formed where `.Ok` holds of it, and its bytes are `.enc`. This is all that is to
 -- be known of a word. How code walks through the bytes, with the proof that it accepts exactly those of well-formed values, stands in Formats, Named, Heads,
--- Told and Lawful. The arguments w, p and q of words are proofs, and can be passed over. The page is proved (law `language`).
+-- Told and Lawful. The arguments w, p and q of words are proofs, and can be passed over. A `Format C` tells by itself where it ends, a
+-- `Filling C` takes its whole container; C is what a head before it tells of it, and `One` where nothing is told. The page is proved (law `language`).
 use Prim.Native.Nat.{ℕ, suc, _+_, _*_, _^_, _<_}
 use mathlib.Core.Path.{_≡_}
 use mathlib.Core.Logic.{_↔_}

@@ -10,6 +10,7 @@ use Rattle.rrt.specs.Walked.{rrt}
 use Rattle.eit.specs.Walked.{eit}
 use Rattle.ett.specs.Walked.{ett}
 
+-- the body by its kind: its walk is that of Bodies.antt (law `same-walk`)
 unfoldable pub bodyOf : Kind → Filling One
 bodyOf Mgt = mgt
 bodyOf Tvct = tvct

@@ -1,5 +1,6 @@
 -- SCOPE 12.4: what is told by its place stands there: of the encoding of a well-formed record, the bytes at every part that is told
--- are those of the record's field. So no sum of lengths in the rooms' Values.antt has to be believed.
+-- are those of the record's field. So no sum of lengths in the rooms' Values.antt has to be believed, but where a part without
+-- bytes begins.
 use Prim.Native.Nat.{ℕ}
 use mathlib.Core.Path.{_≡_}
 use mathlib.Core.List.{List}

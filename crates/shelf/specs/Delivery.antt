@@ -82,7 +82,7 @@ done (result i) = result tt
 abbrev pub quiet : After ℕ → After (Unit {0})
 quiet r = record { outcome = done (r .outcome); shelf = r .shelf }
 
--- the same without the place
+-- what `delivering` answers and leaves, without the place
 unfoldable pub delivered : Shelf → ℕ → ℕ → List ℕ → After (Unit {0})
 delivered s area pid b = quiet (delivering s area pid b)
 
