@@ -52,8 +52,10 @@ static size_t damaged(uint8_t *s) {
         memmove(s + cut, s + cut + size, n - cut - size);
         n -= size;
     }
-    for (uint32_t i = any(4); i && n; i--)
-        s[any(n)] ^= any(2) ? 1u << any(8) : any(256);
+    for (uint32_t i = any(4); i && n; i--) {
+        size_t at = any(n); /* by itself: C does not say which side of an assignment comes first */
+        s[at] ^= any(2) ? 1u << any(8) : any(256);
+    }
     if (any(2))
         seal(s, n);
     return n;

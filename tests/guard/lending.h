@@ -121,6 +121,7 @@ static void ask_titles(const uint8_t *s, size_t n) {
 
 static void ask(const uint8_t *s, size_t n) {
     const guide_which which = {any(9), number(), number(), number()};
+    const uint32_t i = number(), j = number(), k = number(); /* one by one: C does not say which argument of a call comes first */
     ONE(guide_judge, guide_header, s, n);
     ONE(guide_fault, uint32_t, s, n);
     ONE(guide_mgt, guide_mgt_fields, s, n);
@@ -129,7 +130,7 @@ static void ask(const uint8_t *s, size_t n) {
     ONE(guide_tvct_channel, guide_channel_fields, s, n, number());
     ONE(guide_rrt, guide_rrt_fields, s, n);
     ONE(guide_rrt_dimension, guide_dimension_fields, s, n, number());
-    ONE(guide_rrt_value, guide_value_fields, s, n, number(), number());
+    ONE(guide_rrt_value, guide_value_fields, s, n, i, j);
     ONE(guide_eit, guide_eit_fields, s, n);
     ONE(guide_eit_event, guide_event_fields, s, n, number());
     ONE(guide_ett, guide_ett_fields, s, n);
@@ -143,9 +144,9 @@ static void ask(const uint8_t *s, size_t n) {
     ONE(guide_heading, guide_heading_told, s, n, &which);
     ONE(guide_units, guide_units_told, s, n, &which);
     TEXT(guide_text, s, n, &which);
-    ONE(guide_rating, guide_rating_told, s, n, number(), number(), number());
-    ONE(guide_descriptor, guide_descriptor_told, s, n, number(), number());
-    ONE(guide_advisory, guide_part, s, n, number(), number());
+    ONE(guide_rating, guide_rating_told, s, n, i, j, k);
+    ONE(guide_descriptor, guide_descriptor_told, s, n, i, j);
+    ONE(guide_advisory, guide_part, s, n, i, j);
 }
 
 /* The bytes as a text field and as a descriptor list by themselves. */
@@ -154,7 +155,8 @@ static void ask_alone(const uint8_t *s, size_t n) {
     ONE(guide_field_heading, guide_heading_told, s, n, number());
     ONE(guide_field_units, guide_units_told, s, n, number());
     TEXT(guide_field_text, s, n, number());
-    ONE(guide_list_rating, guide_rating_told, s, n, number(), number());
+    const uint32_t i = number(), j = number();
+    ONE(guide_list_rating, guide_rating_told, s, n, i, j);
     ONE(guide_list_descriptor, guide_descriptor_told, s, n, number());
     ONE(guide_list_advisory, guide_part, s, n, number());
 }
