@@ -22,7 +22,7 @@ use Rattle.collecting.specs.Collecting.{Allowed, OneOf, Own, Stretch, Wh
 -- ---- another memory, of another length
 module _ (x : State) (l : List ℕ) (ok : Obeys x) (lent : ownOr14 (length (x .area)) (other l) ≡ true) where
   pub lent-other : (c : Call) → step x (record { call = c; lent = other l }) .answer ≡ refusedAs c 14
-  lent-other c = broken-law x (record { call = c; lent = other l }) (other-breaks x l ok lent)
+  lent-other c = broken-law x (record { call = c; lent = other l }) (λ f. true-false _ f (other-breaks x l ok lent))
 
 -- ---- what a call of a stretch may be
 -- a delivery: of another key; of the table; refused before a watch is asked for; or of more sections than the quota

@@ -25,15 +25,15 @@ use Rattle.collecting.specs.Collecting.{Own, StartsEmpty, deliver, fetch
 module _ (x : State) (k : Asked) (ok : Obeys x) where
   pub says-status : step x (status k) .answer ≡ reported (statusSays (viewIn x k))
   unfolding Says
-  says-status = answer-law x (asks (record { key = k })) ok
+  says-status = answer-law x (status k) ok
 
   pub says-bytes : (m : ℕ) → step x (fetch k m) .answer ≡ gave (fetchingSays (viewIn x k) m)
   unfolding Says
-  says-bytes m = answer-law x (fetches (record { key = k; number = m })) ok
+  says-bytes m = answer-law x (fetch k m) ok
 
 pub says-delivered : (x : State) (pid : ℕ) (b : List ℕ) → Obeys x → step x (deliver pid b) .answer ≡ did (deliverySays (viewIn x (keyIn pid b)) (currentOn pid b))
 unfolding Says
-says-delivered x pid b ok = answer-law x (delivers (record { pid = pid; bytes = b })) ok
+says-delivered x pid b ok = answer-law x (deliver pid b) ok
 
 -- ---- the area keeps its length, so that the turns left are lent it or a memory of another length
 pub own-next : {x : State} {t : Turn} {ts : List Turn} → OneStep x t → Own (length (x .area)) ts → Own (length (step x t .next .area)) ts

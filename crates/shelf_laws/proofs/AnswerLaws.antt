@@ -6,6 +6,7 @@ use mathlib.Core.List.{List}
 use mathlib.Core.Option.{none, some}
 use lib.Dec.{eqb, leb}
 use lib.ListN.{length}
+use Rattle.logic.proofs.LoopLaws.{isnt}
 use Rattle.logic.specs.Choices.{pick}
 use Rattle.logic.specs.Loops.{any, one}
 use Rattle.logic.proofs.CountLaws.{sum-cong}
@@ -44,7 +45,7 @@ broken-on x u l (delivers d) e = breaks (λ r. did (done (r .outcome))) (x .shel
 
 pub broken-law : BrokenLaw
 unfolding step
-broken-law x t e = broken-on x (t .lent) (lentTo x (t .lent)) (t .call) e
+broken-law x t n = broken-on x (t .lent) (lentTo x (t .lent)) (t .call) (isnt _ n)
 
 module _ (s : Shelf) (area : List ℕ) (ok : obeys s (length area) ≡ true) where
   module _ (a : Asked) where

@@ -17,7 +17,7 @@ use Rattle.shelf.specs.Answers.{After}
 use Rattle.shelf.specs.Delivery.{areaAfter, delivered, delivering}
 use Rattle.shelf.specs.Steps.{Lent, State, Step, Turn, accepted, did, gave, isResult, lentTo, other, own, ownOr14, step, stepOn, reported, viewIn}
 use Rattle.shelf.specs.Views.{Call, asks, closes, delivers, fetches, opens}
-use Rattle.shelf_laws.specs.Laws.{AnswerLaw, Obeys, Says, StepLaw}
+use Rattle.shelf_laws.specs.Laws.{AnswerLaw, Obeys, Says, StepLaw, withLent}
 use Rattle.shelf_laws.specs.Promised.{PromisesLaw, QuotasLaw, quotaClosed, quotaIn, quotaNext, quotaOpened}
 use Rattle.shelf_laws.proofs.AnswerLaws.{closing-says, delivery-says, fetching-says, opening-says, status-says}
 use Rattle.shelf_laws.proofs.CloseLaws.{closing-moves, closing-passed}
@@ -29,11 +29,17 @@ use Rattle.shelf_laws.proofs.StayLaws.{done-at, done-is, questions-stay
 
 pub answer-law : AnswerLaw
 unfolding Says step stepOn delivered
-answer-law x (opens o) ok = ap did (opening-says (x .shelf) (x .area) ok (o .key) (o .quota))
-answer-law x (closes c) ok = ap did (closing-says (x .shelf) (x .area) ok (c .key))
-answer-law x (asks q) ok = ap reported (status-says (x .shelf) (x .area) ok (q .key))
-answer-law x (fetches f) ok = ap gave (fetching-says (x .shelf) (x .area) ok (f .key) (f .number))
-answer-law x (delivers d) ok = ap did (delivery-says (x .shelf) (x .area) ok (d .pid) (d .bytes))
+answer-law x t ok = go (t .call)
+  where
+    l : List ℕ
+    l = lentTo x (t .lent)
+
+    go : (c : Call) → Says (withLent x t) c (stepOn x (t .lent) l c .answer)
+    go (opens o) = ap did (opening-says (x .shelf) l ok (o .key) (o .quota))
+    go (closes c) = ap did (closing-says (x .shelf) l ok (c .key))
+    go (asks q) = ap reported (status-says (x .shelf) l ok (q .key))
+    go (fetches f) = ap gave (fetching-says (x .shelf) l ok (f .key) (f .number))
+    go (delivers d) = ap did (delivery-says (x .shelf) l ok (d .pid) (d .bytes))
 
 -- ---- an accepted call
 pub done-tt : (o : Outcome (Unit {0})) → isResult o ≡ true → o ≡ result tt

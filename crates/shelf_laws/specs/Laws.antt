@@ -31,7 +31,7 @@ pub record OneStep (x : State) (t : Turn) : Type 0 where
 abbrev pub StepLaw : Type 0
 StepLaw = (x : State) (t : Turn) → Obeys x → OneStep x t
 
--- ---- the answers, on a shelf that obeys its rules: by the key's view, and of an opening by what is left too
+-- ---- the answers, on a shelf that obeys its rules, with the memory that is lent as its area: by the key's view there, and of an opening by what is left
 unfoldable pub Says : State → Call → Answer → Type 0
 Says x (opens o) r = r ≡ did (openingSays (x .shelf) (viewIn x (o .key)) o)
 Says x (closes c) r = r ≡ did (closingSays (viewIn x (c .key)))
@@ -39,10 +39,14 @@ Says x (asks q) r = r ≡ reported (statusSays (viewIn x (q .key)))
 Says x (fetches f) r = r ≡ gave (fetchingSays (viewIn x (f .key)) (f .number))
 Says x (delivers d) r = r ≡ did (deliverySays (viewIn x (keyIn (d .pid) (d .bytes))) (currentOn (d .pid) (d .bytes)))
 
-abbrev pub AnswerLaw : Type 0
-AnswerLaw = (x : State) (c : Call) → Obeys x → Says x c (step x (record { call = c; lent = own }) .answer)
+-- the shelf, with the memory that a turn is lent as its area: what its answer is about
+abbrev pub withLent : State → Turn → State
+withLent x t = record { shelf = x .shelf; area = lentTo x (t .lent) }
 
--- every call is refused by 14 where the shelf breaks its rules, with the memory that it is lent as its area
+abbrev pub AnswerLaw : Type 0
+AnswerLaw = (x : State) (t : Turn) → Obeys (withLent x t) → Says (withLent x t) (t .call) (step x t .answer)
+
+-- every other call, on a shelf that breaks its rules with the memory that it is lent as its area, is refused by 14
 abbrev pub refusedAs : Call → ℕ → Answer
 refusedAs (opens o) n = did (refused n)
 refusedAs (closes c) n = did (refused n)
@@ -51,7 +55,7 @@ refusedAs (fetches f) n = gave (refused n)
 refusedAs (delivers d) n = did (refused n)
 
 abbrev pub BrokenLaw : Type 0
-BrokenLaw = (x : State) (t : Turn) → obeys (x .shelf) (length (lentTo x (t .lent))) ≡ false → step x t .answer ≡ refusedAs (t .call) 14
+BrokenLaw = (x : State) (t : Turn) → (Obeys (withLent x t) → ⊥) → step x t .answer ≡ refusedAs (t .call) 14
 
 -- ---- demand 1: a refused call leaves the shelf and its area, of any shelf and any lent memory; and so does every question
 abbrev pub RefusedStays : Type 0
