@@ -29,7 +29,7 @@ core:
 
 list:
 	@[ -f "$(FILE)" ] || { echo "make list: there is no file '$(FILE)'"; exit 1; }
-	@[ -e target/guide/lister ] || echo "proving the lister first, which takes about 8 minutes from nothing" >&2
+	@[ -e target/guide/lister ] || echo "proving the lister first, which takes 5 to 8 minutes from nothing" >&2
 	@sh tools/lister.sh
 	@target/guide/lister < "$(FILE)"
 

@@ -11,7 +11,7 @@ x86_64 | aarch64) ;;
     ;;
 esac
 command -v rt >/dev/null || { echo "the library needs the Rattle kit: its command rt is not found"; exit 1; }
-[ -e "target/lib/$arch/liblent.a" ] || echo "proving the library first, which takes about 15 minutes from nothing" >&2
+[ -e "target/lib/$arch/liblent.a" ] || echo "proving the library first, which takes 10 to 15 minutes from nothing" >&2
 sh tools/staticlib.sh guide "$arch"
 sh tools/staticlib.sh lent "$arch"
 mkdir -p "target/guide/$arch"
