@@ -64,6 +64,7 @@ speed:
 	@sh bench/sizes.sh
 	@bash bench/lister.sh
 	@bash bench/stack.sh
+	@python3 bench/frames.py
 
 peers:
 	@sh bench/peers.sh

@@ -31,6 +31,7 @@ done
 compare layout rt fmt --check
 compare scope python3 tests/scope.py
 compare rules python3 tests/rules.py
+compare arrays python3 tests/arrays.py
 compare core sh -c 'python3 tools/core.py > target/core.txt'
 compare promises python3 tests/promises.py
 compare edits python3 tests/edits.py
@@ -49,6 +50,7 @@ compare readme python3 tests/readme.py
 compare checksum_tables_there python3 tests/tables_there.py
 compare lent_from_c sh tests/lent/run.sh
 compare stack_of_each_call sh bench/stack.sh
+compare stack_on_any_input python3 bench/frames.py
 compare rust_bindings sh bindings/rust/test.sh
 compare second_opinion sh tests/compare/run.sh
 

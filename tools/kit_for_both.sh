@@ -1,7 +1,8 @@
 #!/bin/sh
-# Prints the folder of a kit that writes a library as code for x86-64, as the kit does, and the same module as Arm code too, into arm.o of that
-# folder: links to the kit, and a clang that is called a second time with the other target. What is proved is the same: the proof ends at
-# the language's machine, whichever back end follows. Run it from the repository's root.
+# Prints the folder of a kit that writes a library as code for x86-64, as the kit does, and the same module into that folder: as Arm code too, aarch64.o;
+# and for each of the two the code as text, ARCH.s, and the frames of its functions, ARCH.su. It has links to the kit, and a clang that is called
+# again for each of these. What is proved is the same: the proof ends at the language's machine, whichever back end follows. Run it from the
+# repository's root.
 set -e
 home=${RATTLE_HOME:-$(dirname "$(dirname "$(readlink -f "$(command -v rt)")")")}
 on=on/$(uname -m)
@@ -16,16 +17,24 @@ cat >"$made/$on/toolchain/bin/clang" <<END
 #!/bin/sh
 clang=$home/$on/toolchain/bin/clang
 "\$clang" "\$@" || exit
-for word; do
-    shift
-    case \$word in
-    --target=*) word=--target=aarch64-unknown-linux-gnu ;;
-    -march=*) continue ;;
-    *.o) word=$made/arm.o ;;
-    esac
-    set -- "\$@" "\$word"
-done
-"\$clang" "\$@" -Wno-override-module 2>"$made/arm.log" || rm -f "$made/arm.o"
+again() { # ARCH KIND WORD..: the module once more, into a file of this KIND
+    arch=\$1
+    kind=\$2
+    shift 2
+    for word; do
+        shift
+        case \$word in
+        --target=*) word=--target=\$arch-unknown-linux-gnu ;;
+        -march=*) [ "\$arch" = x86_64 ] || continue ;;
+        -c) [ "\$kind" = o ] || word=-S ;;
+        *.o) word=$made/\$arch.\$kind ;;
+        esac
+        set -- "\$@" "\$word"
+    done
+    "\$clang" "\$@" -Wno-override-module 2>>"$made/\$arch.log" || rm -f "$made/\$arch.\$kind"
+}
+again aarch64 o "\$@"
+for arch in x86_64 aarch64; do again \$arch s "\$@" -fstack-usage; done
 END
 chmod +x "$made/$on/toolchain/bin/clang"
 echo "$made"

@@ -14,7 +14,7 @@ if [ "$(uname -m)" = x86_64 ]; then
 else
     # An unchanged program is not compiled again, and the Arm code is made where it is compiled.
     kit=$(sh tools/kit_for_both.sh)
-    rm -f target/stamp/lister "$kit/arm.o"
+    rm -f target/stamp/lister "$kit/aarch64.o"
     RATTLE_HOME=$kit rt check lister >target/guide/lister.log 2>&1 || { cat target/guide/lister.log; exit 1; }
-    gcc -o $made "$kit/arm.o" tools/errno.c
+    gcc -o $made "$kit/aarch64.o" tools/errno.c
 fi

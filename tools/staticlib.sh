@@ -5,20 +5,22 @@
 set -e
 lib=target/lib
 wanted=$lib/${2:-$(uname -m)}/lib$1.a
-if [ -e "$wanted" ] && [ -z "$(find crates crates.txt -type f -newer "$wanted" -print -quit)" ]; then
+if [ -e "$wanted" ] && [ -z "$(find crates crates.txt tools/*.sh -type f -newer "$wanted" -print -quit)" ]; then
     exit 0
 fi
 kit=$(sh tools/kit_for_both.sh)
 mkdir -p $lib/x86_64 $lib/aarch64
-rm -f $lib/*/lib"$1".a "$kit/arm.o" "$kit/arm.log"
+rm -f $lib/*/lib"$1".a $lib/*/"$1".* "$kit"/x86_64.* "$kit"/aarch64.*
 RATTLE_HOME=$kit rt staticlib "$1" >"$lib/$1.log" 2>&1 || { cat "$lib/$1.log"; exit 1; }
 mv "target/staticlib/lib$1.a" $lib/x86_64/
-if [ -e "$kit/arm.o" ]; then
-    mv "$kit/arm.o" "$lib/aarch64/$1.o"
-    "$(sh tools/kit.sh)/bin/llvm-ar" rcs "$lib/aarch64/lib$1.a" "$lib/aarch64/$1.o"
-fi
+for arch in x86_64 aarch64; do
+    for kind in o s su; do
+        [ ! -e "$kit/$arch.$kind" ] || mv "$kit/$arch.$kind" "$lib/$arch/$1.$kind"
+    done
+done
+[ ! -e "$lib/aarch64/$1.o" ] || "$(sh tools/kit.sh)/bin/llvm-ar" rcs "$lib/aarch64/lib$1.a" "$lib/aarch64/$1.o"
 if [ ! -e "$wanted" ]; then
     echo "the compiler of the kit on this machine writes no such code:"
-    cat "$kit/arm.log"
+    cat "$kit/aarch64.log"
     exit 1
 fi

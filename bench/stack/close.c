@@ -15,5 +15,6 @@ int main(void) {
     expected.watch[LAST] = (Watch){0};
     long taken = stack_of(call);
     painted("close", "the last record", taken, !refusal && as_expected());
+    tell("close");
     return failed;
 }

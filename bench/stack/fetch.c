@@ -17,5 +17,6 @@ int main(void) {
     expected = held;
     long taken = stack_of(call);
     painted("fetch", "the last place", taken, kept.start == (PLACES - 1) * PLACE && kept.length == PLACE && as_expected());
+    tell("fetch");
     return failed;
 }

@@ -31,8 +31,8 @@ static void hear(Watch *w, unsigned version, unsigned last) {
     w->last = last;
 }
 
-static Place taken_by(unsigned w, unsigned number, size_t length) {
-    return (Place){1, w, number, {length >> 8, length}};
+static void take(Held *h, unsigned place, unsigned w, unsigned number, size_t length) {
+    h->place[place] = (Place){1, w, number, {length >> 8, length}};
 }
 
 // All records open, each with EITs of version 3 in as many places as its quota: every place is taken.
@@ -43,7 +43,7 @@ static void fill(void) {
         held.watch[w] = fresh_watch(w, 0xCB);
         hear(&held.watch[w], 3, QUOTA - 1);
         for (unsigned k = 0; k < QUOTA; k++)
-            held.place[QUOTA * w + k] = taken_by(w, k, PLACE);
+            take(&held, QUOTA * w + k, w, k, PLACE);
     }
 }
 

@@ -1,21 +1,33 @@
-// Judging a whole section.
-#include "painted.h"
-#include "sections.h"
+// Judging a section, and finding where its body fails: of every kind, whole and without the last byte of its body.
+#include "guide_calls.h"
 
-uint8_t bench_judge(const uint8_t *s, size_t n);
+static guide_header header;
+static uint32_t offset;
 
-static const Section *judged;
-static uint8_t refusal;
+CALL(guide_judge, &header)
+CALL(guide_fault, &offset)
 
-static void call(void) { refusal = bench_judge(judged->bytes, judged->n); }
+static void cut(Section *s) {
+    s->n -= 5;
+    seal(s);
+}
 
 int main(void) {
-    static Section sections[WORST];
-    worst_sections(sections);
-    for (int k = 0; k < WORST; k++) {
-        judged = &sections[k];
-        long taken = stack_of(call);
-        painted("judge", judged->name, taken, !refusal);
+    static Section sections[FULL];
+    full_sections(sections);
+    for (int k = 0; k < FULL; k++) {
+        asked = sections[k];
+        PAINT(guide_judge, !refusal && header.table_id == asked.bytes[0] && header.extension == 7);
+        cut(&asked);
+        PAINT(guide_judge, refusal == GUIDE_BODY);
     }
+    tell("guide_judge");
+    for (int k = 0; k < FULL; k++) {
+        asked = sections[k];
+        PAINT(guide_fault, !refusal && offset == GUIDE_NO_VALUE);
+        cut(&asked);
+        PAINT(guide_fault, !refusal && offset < asked.n);
+    }
+    tell("guide_fault");
     return failed;
 }

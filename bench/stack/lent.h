@@ -11,7 +11,7 @@ typedef struct {
 } Lent;
 
 static uint8_t area[PLACES * PLACE];
-static Lent lent, expected;
+static Lent held, expected;
 
 static guide_watch fresh_watch(unsigned w, unsigned table_id) {
     return (guide_watch){.live = 1, .key = {w, table_id, 7}, .quota = QUOTA};
@@ -23,8 +23,8 @@ static void hear(guide_watch *w, unsigned version, unsigned last) {
     w->last = last;
 }
 
-static void take(Lent *l, unsigned place, unsigned used, unsigned watch, unsigned number, unsigned length) {
-    const uint32_t row[ROW] = {used, watch, number, length, 0};
+static void take(Lent *l, unsigned place, unsigned w, unsigned number, unsigned length) {
+    const uint32_t row[ROW] = {1, w, number, length, 0};
     for (int i = 0; i < ROW; i++)
         l->place[place][i] = row[i];
 }
@@ -32,19 +32,20 @@ static void take(Lent *l, unsigned place, unsigned used, unsigned watch, unsigne
 // All records open, each with EITs of version 3 in as many places as its quota: every place is taken.
 static void fill(void) {
     for (unsigned w = 0; w < RECORDS; w++) {
-        lent.watch[w] = fresh_watch(w, 0xCB);
-        hear(&lent.watch[w], 3, QUOTA - 1);
+        held.watch[w] = fresh_watch(w, 0xCB);
+        hear(&held.watch[w], 3, QUOTA - 1);
         for (unsigned k = 0; k < QUOTA; k++)
-            take(&lent, QUOTA * w + k, 1, w, k, PLACE);
+            take(&held, QUOTA * w + k, w, k, PLACE);
     }
     for (int i = 0; i < REPLY; i++)
-        lent.reply[i] = 99;
+        held.reply[i] = 99;
 }
 
 // The last watch's places, from its place k on.
 static inline void free_from(Lent *l, unsigned k) {
     for (; k < QUOTA; k++)
-        take(l, QUOTA * LAST + k, 0, 0, 0, 0);
+        for (int i = 0; i < ROW; i++)
+            l->place[QUOTA * LAST + k][i] = 0;
 }
 
 // By their fields: what stands between them is not told.
@@ -62,7 +63,7 @@ static inline int same_numbers(const uint32_t *a, const uint32_t *b, size_t n) {
 
 static inline int as_expected(void) {
     for (int w = 0; w < RECORDS; w++)
-        if (!same_watch(&lent.watch[w], &expected.watch[w]))
+        if (!same_watch(&held.watch[w], &expected.watch[w]))
             return 0;
-    return same_numbers(lent.place[0], expected.place[0], PLACES * ROW) && same_numbers(lent.reply, expected.reply, REPLY);
+    return same_numbers(held.place[0], expected.place[0], PLACES * ROW) && same_numbers(held.reply, expected.reply, REPLY);
 }

@@ -16,5 +16,6 @@ int main(void) {
     expected.watch[LAST] = fresh_watch(LAST, 0xCB);
     long taken = stack_of(call);
     painted("open", "the last record", taken, !refusal && as_expected());
+    tell("open");
     return failed;
 }

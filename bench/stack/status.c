@@ -13,5 +13,6 @@ int main(void) {
     expected = held;
     long taken = stack_of(call);
     painted("status", "the last record", taken, complete == QUOTA && as_expected());
+    tell("status");
     return failed;
 }

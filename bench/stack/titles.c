@@ -1,49 +1,30 @@
-// All events and titles of an EIT, plain and compressed, counted first and not.
-#include "painted.h"
-#include "sections.h"
+// All events and titles of EITs, plain and compressed: with room to decode each title at once, and with just as much as they take, for which they
+// are counted first.
+#include "guide_calls.h"
 
-size_t stack_titles(const uint8_t *s, size_t n, uint32_t *rows, size_t room, uint16_t *units, size_t length);
+static guide_titled_event events[GUIDE_MOST_EVENTS];
+static uint16_t units[8 * LONGEST];
+static size_t room;
+static guide_titles_told told;
 
-enum { ROWS = 12 * 255, UNITS = 8 * LONGEST, PLAIN = 75 * 26, PACKED = 163 * 8 };
+CALL(guide_titles, events, GUIDE_NUMBERS(events), units, room, &told)
 
-static Section asked;
-static uint32_t rows[ROWS];
-static uint16_t units[UNITS];
-static size_t lent, told;
-
-static void call(void) { told = stack_titles(asked.bytes, asked.n, rows, ROWS, units, lent); }
-
-// "The next", compressed, in as many events as a section holds.
-static void packed_events(Section *s) {
-    static const uint8_t title[] = {13, 1, 'e', 'n', 'g', 1, 1, 0, 5, 67, 40, 220, 132, 212};
-    begin(s, "EIT, 163 events, compressed titles", 0xCB);
-    put(s, 163);
-    for (int i = 0; i < 163; i++) {
-        event(s, 0, 0);
-        s->n -= 3;
-        for (size_t k = 0; k < sizeof title; k++)
-            put(s, title[k]);
-        put(s, 0xF0);
-        put(s, 0);
-    }
-    seal(s);
-}
-
-static void both(size_t size) {
-    lent = UNITS;
-    long once = stack_of(call);
-    painted("titles", asked.name, once, told == size);
-    lent = size;
-    long counted = stack_of(call);
-    painted("titles, counted first", asked.name, counted, told == size);
+static void both(uint32_t size) {
+    room = 8 * LONGEST;
+    PAINT(guide_titles, !refusal && told.units == size);
+    room = size;
+    PAINT(guide_titles, !refusal && told.units == size);
 }
 
 int main(void) {
-    static Section sections[WORST];
-    worst_sections(sections);
-    asked = sections[3];
-    both(PLAIN);
+    smallest_events(&asked);
+    both(0);
+    titled_events(&asked);
+    both(75 * 26);
     packed_events(&asked);
-    both(PACKED);
+    both(PACKED_EVENTS * PACKED_UNITS);
+    rated_event(&asked);
+    both(PACKED(TITLE - STRING));
+    tell("guide_titles");
     return failed;
 }

@@ -7,8 +7,6 @@ use bytes_at::byte;
 use part::part_of;
 use section::Head;
 use segment::Judged;
-use text::Units;
-use titles::TitlesAnswer;
 ghost use mathlib.Core.Path.{_≡_};
 ghost use Prim.Native.Nat.{_≤_};
 ghost use lib.ListN.{length};
@@ -37,15 +35,6 @@ pub extern "C" fn bench_judge(s: &[u8]) -> u8
     }
 }
 
-// How many units the titles of a section have, which are stored with all events; 0 where it is refused.
-#[no_mangle]
-pub extern "C" fn stack_titles(s: &[u8], rows: &mut [u32], units: &mut [u16]) -> usize {
-    match titles::titles(s, rows, units) {
-        TitlesAnswer::Refused(_k) => 0,
-        TitlesAnswer::Are { events: _, units } => units,
-    }
-}
-
 // One segment of type 1 into the output: 1 where it is text, and else 0.
 fn title(s: &[u8], out: &mut [u16]) -> usize
     requires { ⌜ length (now s) ≤ 255 ⌝ }
@@ -71,13 +60,4 @@ pub extern "C" fn bench_titles(s: &[u8], out: &mut [u16]) -> usize
         at += n + 1;
     }
     texts
-}
-
-// How many units the text of string k has, and 0 where it is refused.
-#[no_mangle]
-pub extern "C" fn stack_text(field: &[u8], k: usize, out: &mut [u16]) -> usize {
-    match text::string_text(field, k, out) {
-        Units::Are(a) => a.units,
-        Units::Refused(_k) => 0,
-    }
 }
