@@ -1,17 +1,19 @@
 #!/usr/bin/env python3
-"""The stack that each call of guide.h can take on any input, for x86-64 and for Arm, from the code that the compiler wrote: a function takes its frame
-and what the deepest of its callees takes. Nothing in that code calls itself or calls by pointer, and no frame is of a size that depends on
-data; where one did, this fails. Run it from the repository's root, behind bench/stack.sh: it holds the table of docs/SPEED.md to be true, of what was
-painted too, and the rule that no call takes more than 6 KiB."""
+"""The stack that each call of guide.h can take on any input, for x86-64 and for Arm, from the code of the library: a function takes its frame and what the
+deepest of its callees takes. Nothing in that code calls itself or calls by pointer, and no frame is of a size that depends on data; where one did,
+this fails. Run it from the repository's root, behind bench/stack.sh: it holds the table of docs/SPEED.md to be true, of what was painted too,
+and the rule that no call takes more than 6 KiB."""
 import re
+import subprocess
 import sys
-from functools import cache
 from pathlib import Path
 
 ALLOWED = 6 << 10
 # what a call puts on the stack before the callee runs; and what is not the library's but the program's that links it
 RETURN_ADDRESS = {"x86_64": 8, "aarch64": 0}
 OUTSIDE = "memcpy", "memset"
+# the words that the text is assembled with: on x86-64 those that fill gaps with the instructions that the compiler fills them with
+AS_WRITTEN = {"x86_64": ["-march=x86-64-v2"], "aarch64": []}
 # a painted call has beside its own stack the arguments that are passed there, six at most, and the frame of who passes them
 CALLER = 64
 
@@ -32,13 +34,23 @@ def functions(text):
             lines.append(line)
 
 
+def is_in_the_library(arch, crate):
+    """Whether the text, assembled, is byte for byte what the library has."""
+    kit, again = subprocess.check_output(["sh", "tools/kit.sh"], text=True).strip(), f"target/bench/stack/{arch}-{crate}.o"
+    words = [f"--target={arch}-unknown-linux-gnu", *AS_WRITTEN[arch], "-c", f"target/lib/{arch}/{crate}.s", "-o", again]
+    subprocess.run([f"{kit}/bin/clang", *words], check=True)
+    return Path(again).read_bytes() == subprocess.check_output([f"{kit}/bin/llvm-ar", "p", f"target/lib/{arch}/lib{crate}.a"])
+
+
 class Code:
     """The functions of the library on one sort of machine."""
 
     def __init__(self, arch):
-        self.arch, self.frames, self.below, self.callees, self.heirs = arch, {}, {}, {}, {}
+        self.arch, self.frames, self.below, self.callees, self.heirs, self.known = arch, {}, {}, {}, {}, {}
         for crate in "guide", "lent":
             self.read(crate)
+            if not is_in_the_library(arch, crate):
+                wrong.append(f"{arch}: the code of {crate} that is counted is not that of the library")
 
     def read(self, crate):
         of_crate = {}
@@ -62,7 +74,7 @@ class Code:
     def note(self, key, line, lines):
         """Notes whom a line calls, or whom it leaves the rest to."""
         found = CALL.match(line)
-        if not found or found[2].startswith(".L"):
+        if not found or found[2].startswith(".LBB"):
             return
         how, whom = found[1], found[2].strip('"')
         by_pointer = whom.startswith("*") or how in ("br", "blr")
@@ -71,18 +83,22 @@ class Code:
         elif not by_pointer:
             (self.callees if how in ("call", "callq", "bl") else self.heirs)[key].add(whom if whom in OUTSIDE else (key[0], whom))
 
-    @cache
-    def stack(self, key):
+    def stack(self, key, above=()):
+        """What a function takes with all that it calls; `above` are those that led to it."""
         if key in OUTSIDE:
             return RETURN_ADDRESS[self.arch]
-        deepest = max([self.stack(callee) for callee in self.callees[key]], default=0)
-        own = RETURN_ADDRESS[self.arch] + self.frames[key] + max(deepest, self.below[key])
-        return max([own, *(self.stack(heir) for heir in self.heirs[key])])
+        if key in above or key not in self.frames:
+            wrong.append(f"{self.arch}: {above[-1][1]} calls {key[-1]}, which " + ("leads back to it" if key in above else "is not the library's"))
+            return 0
+        if key not in self.known:
+            deepest = max([self.stack(callee, (*above, key)) for callee in self.callees[key]], default=0)
+            own = RETURN_ADDRESS[self.arch] + self.frames[key] + max(deepest, self.below[key])
+            self.known[key] = max([own, *(self.stack(heir, (*above, key)) for heir in self.heirs[key])])
+        return self.known[key]
 
 
 header = Path("include/guide.h").read_text()
-calls = re.findall(r"^uint32_t (guide_\w+)\(|^GUIDE_SHELF_CALL\((\w+)\)", header, re.M)
-calls = [a or b for a, b in calls]
+calls = re.findall(r"^(?:uint32_t |GUIDE_SHELF_CALL\()(\w+)[()]", header, re.M)
 painted = dict(re.findall(r"^(\w+): (\d+) bytes of stack", Path("target/bench/stack/painted.txt").read_text(), re.M))
 code = Code("x86_64"), Code("aarch64")
 table = re.findall(r"^\| `(\w+)` \| ([\d,]+) \| ([\d,]+) \| ([\d,]+) \|$", Path("docs/SPEED.md").read_text(), re.M)

@@ -19,10 +19,13 @@ static int advisory_last(void) { return !refusal && descriptor.tag == 0x87 && de
 
 static int advised(void) { return !refusal && text.length == ADVISORY_TEXT; }
 
-#define TOLD(name, good)   \
-    do {                   \
-        PAINT(name, good); \
-        tell(#name);       \
+#define TOLD(name, good)                         \
+    do {                                         \
+        rating = (guide_rating_told){0};         \
+        descriptor = (guide_descriptor_told){0}; \
+        text = (guide_part){0};                  \
+        PAINT(name, good);                       \
+        tell(#name);                             \
     } while (0)
 
 int main(void) {

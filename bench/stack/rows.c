@@ -17,18 +17,18 @@ CALL(guide_eit_events, events, GUIDE_NUMBERS(events), &count)
 static Section sections[FULL];
 
 // Paints a call on every section of a kind, one of which has the most entries.
-#define ON_EACH(kind, name, entries)                            \
-    do {                                                        \
-        uint32_t found = 0;                                     \
-        for (int k = 0; k < FULL; k++) {                        \
-            asked = sections[k];                                \
-            if (asked.bytes[0] == (kind)) {                     \
-                PAINT(name, !refusal && count <= (entries));    \
-                found = count > found ? count : found;          \
-            }                                                   \
-        }                                                       \
+#define ON_EACH(kind, name, entries)                               \
+    do {                                                           \
+        uint32_t found = 0;                                        \
+        for (int k = 0; k < FULL; k++) {                           \
+            asked = sections[k];                                   \
+            if (asked.bytes[0] == (kind)) {                        \
+                PAINT(name, !refusal && count <= (entries));       \
+                found = count > found ? count : found;             \
+            }                                                      \
+        }                                                          \
         painted(#name, "the most entries", 0, found == (entries)); \
-        tell(#name);                                            \
+        tell(#name);                                               \
     } while (0)
 
 int main(void) {

@@ -36,17 +36,17 @@ static uint32_t entries(void) {
 static uint32_t values(void) { return asked.bytes[10] == GRADED ? GRADES : 1; }
 
 // Paints a call on every section of a kind, asking for the last entry.
-#define ON_EACH(kind, name, good)                   \
-    do {                                            \
-        for (int k = 0; k < FULL; k++) {            \
-            asked = sections[k];                    \
-            if (asked.bytes[0] == (kind)) {         \
-                i = entries() - 1;                  \
-                j = values() - 1;                   \
-                PAINT(name, (good));                \
-            }                                       \
-        }                                           \
-        tell(#name);                                \
+#define ON_EACH(kind, name, good)           \
+    do {                                    \
+        for (int k = 0; k < FULL; k++) {    \
+            asked = sections[k];            \
+            if (asked.bytes[0] == (kind)) { \
+                i = entries() - 1;          \
+                j = values() - 1;           \
+                PAINT(name, (good));        \
+            }                               \
+        }                                   \
+        tell(#name);                        \
     } while (0)
 
 // The same of a call for an entry, which is not there where there is none.

@@ -79,14 +79,17 @@ static int ends_well(const Text *t) {
 }
 
 // Paints a call on each of these texts.
-#define ON_EACH(texts, name, good)                                          \
-    do {                                                                    \
+#define ON_EACH(texts, name, good)                                               \
+    do {                                                                         \
         for (const Text *t = texts; t < texts + sizeof texts / sizeof *t; t++) { \
-            t->in(&asked);                                                  \
-            which = (guide_which){t->text, t->i, t->j, 0};                  \
-            units[t->units - 1] = 0;                                        \
-            PAINT(name, !refusal && (good));                                \
-        }                                                                   \
+            t->in(&asked);                                                       \
+            which = (guide_which){t->text, t->i, t->j, 0};                       \
+            count = 0;                                                           \
+            heading = (guide_heading_told){0};                                   \
+            told = (guide_units_told){0};                                        \
+            units[t->units - 1] = 0;                                             \
+            PAINT(name, !refusal && (good));                                     \
+        }                                                                        \
     } while (0)
 
 // The last of as many strings as there can be.
@@ -94,6 +97,7 @@ static int ends_well(const Text *t) {
     do {                                                                           \
         which = (guide_which){GUIDE_EXTENDED_TEXT, 0, 0, STRINGS - 1};             \
         string = STRINGS - 1;                                                      \
+        heading = (guide_heading_told){0, 1};                                      \
         PAINT(name, !refusal && heading.language == ENGLISH && !heading.segments); \
         string = 0;                                                                \
     } while (0)
