@@ -97,10 +97,17 @@ class Code:
         return self.known[key]
 
 
+def painted_of(arch):
+    """What was painted of each call: for Arm of none, where no Arm code runs."""
+    lines = Path(f"target/bench/stack/{arch}.txt")
+    found = re.findall(r"^(\w+): (\d+) bytes of stack", lines.read_text(), re.M) if lines.exists() else []
+    return {name: int(figure) for name, figure in found}
+
+
 header = Path("include/guide.h").read_text()
 calls = re.findall(r"^(?:uint32_t |GUIDE_SHELF_CALL\()(\w+)[()]", header, re.M)
-painted = dict(re.findall(r"^(\w+): (\d+) bytes of stack", Path("target/bench/stack/painted.txt").read_text(), re.M))
 code = Code("x86_64"), Code("aarch64")
+painted = {machine.arch: painted_of(machine.arch) for machine in code}
 table = re.findall(r"^\| `(\w+)` \| ([\d,]+) \| ([\d,]+) \| ([\d,]+) \|$", Path("docs/SPEED.md").read_text(), re.M)
 told = {name: [int(n.replace(",", "")) for n in figures] for name, *figures in table}
 
@@ -108,11 +115,11 @@ if len(calls) < 39 or list(told) != calls:
     wrong.append("the rows of docs/SPEED.md are not the calls of guide.h, in their order")
 for name in calls:
     crate = "lent" if name.startswith("lent_") else "guide"
-    found = [int(painted.get(name, 0)), *(machine.stack((crate, name)) for machine in code)]
+    found = [painted["x86_64"].get(name, 0), *(machine.stack((crate, name)) for machine in code)]
     print(f"| `{name}` | {found[0]:,} | {found[1]:,} | {found[2]:,} |")
     if not found[0]:
         wrong.append(f"{name} was not painted")
-    if found[0] > found[1] + CALLER:
+    if any(painted[machine.arch].get(name, 0) > machine.stack((crate, name)) + CALLER for machine in code):
         wrong.append(f"{name}: more was painted than its frames have")
     if max(found) > ALLOWED:
         wrong.append(f"{name}: above {ALLOWED} bytes")

@@ -1,29 +1,41 @@
 #!/bin/sh
-# Paints the stack of calls: bench/stack.sh [PROGRAM..], where none is named all of bench/stack/. Run it from the repository's root. The kit's clang makes
-# programs for x86-64, with no C library, so the same code runs on every machine: on another than x86-64 in the kit's emulator. The lines stand
-# in target/bench/stack/painted.txt too.
+# Paints the stack of calls: bench/stack.sh [PROGRAM..], where none is named all of bench/stack/. Run it from the repository's root. The kit's clang makes the
+# programs, with no C library: for x86-64, which every machine runs, by the kit's emulator if need be; and those of guide.h for Arm, where this is an Arm
+# machine or has the emulator qemu-aarch64 (Debian: qemu-user). The lines stand in target/bench/stack/ARCH.txt as well.
 set -e
 kit=$(sh tools/kit.sh)
-before=
-[ "$(uname -m)" = x86_64 ] || before=$kit/bin/qemu-x86_64
-painted=target/bench/stack
-mkdir -p $painted
-: >$painted/painted.txt
+made=target/bench/stack
+mkdir -p $made
 failed=0
+
+paint() { # ARCH PROGRAM LIBRARY [EMULATOR]
+    "$kit/bin/clang" --target=$1-unknown-linux-gnu -std=gnu11 -O2 -Wall -Wextra -ffreestanding -nostdinc -nostdlib -static -fuse-ld=lld \
+        -Ibench -Iinclude -Itests/lent -Itests/bare -o $made/$2 bench/stack/$2.c "$3"
+    $4 $made/$2 >$made/$2.txt || failed=1
+    sed "s/^/$1 /" $made/$2.txt
+    cat $made/$2.txt >>$made/$1.txt
+}
+
+rm -f $made/*.txt
+emulator=
+[ "$(uname -m)" = x86_64 ] || emulator=$kit/bin/qemu-x86_64
+arm=yes
+arm_emulator=
+[ "$(uname -m)" = aarch64 ] || arm_emulator=$(command -v qemu-aarch64) || arm=no
 for program in ${*:-judge tables rows titles texts ratings writing lent open close status fetch deliver}; do
     case $program in
-    open | close | status | fetch | deliver) # the shelf by value is called from Rattle
+    open | close | status | fetch | deliver) # the shelf by value, as it is called from Rattle
         sh tools/staticlib.sh bench_calls x86_64
-        library=target/lib/x86_64/libbench_calls.a
+        paint x86_64 "$program" target/lib/x86_64/libbench_calls.a $emulator
         ;;
     *)
         sh tools/lib.sh x86_64
-        library=target/guide/x86_64/libguide.a
+        paint x86_64 "$program" target/guide/x86_64/libguide.a $emulator
+        if [ $arm = yes ]; then
+            sh tools/lib.sh aarch64
+            paint aarch64 "$program" target/guide/aarch64/libguide.a $arm_emulator
+        fi
         ;;
     esac
-    "$kit/bin/clang" --target=x86_64-unknown-linux-gnu -std=gnu11 -O2 -Wall -Wextra -ffreestanding -nostdinc -nostdlib -static -fuse-ld=lld \
-        -Ibench -Iinclude -Itests/lent -Itests/bare -o $painted/$program bench/stack/$program.c $library
-    $before $painted/$program >$painted/$program.txt || failed=1
-    tee -a $painted/painted.txt <$painted/$program.txt
 done
 exit $failed
