@@ -1,8 +1,8 @@
 #!/usr/bin/env python3
 """The stack that each call of guide.h can take on any input, for x86-64 and for Arm, from the code of the library: a function takes its frame and what the
 deepest of its callees takes. Nothing in that code calls itself or calls by pointer, and no frame is of a size that depends on data; where one did,
-this fails. Run it from the repository's root, behind bench/stack.sh: it holds the table of docs/SPEED.md to be true, of what was painted too,
-and the rule that no call takes more than 6 KiB."""
+this fails. Run it from the repository's root, behind bench/stack.sh: it fails where a call takes more than 6 KiB, or more than the table of docs/SPEED.md
+says, on any input or where it was painted."""
 import re
 import subprocess
 import sys
@@ -12,7 +12,7 @@ ALLOWED = 6 << 10
 # what a call puts on the stack before the callee runs; and what is not the library's but the program's that links it
 RETURN_ADDRESS = {"x86_64": 8, "aarch64": 0}
 OUTSIDE = "memcpy", "memset"
-# the words that the text is assembled with: on x86-64 those that fill gaps with the instructions that the compiler fills them with
+# the words that the assembly is assembled with: on x86-64 those that fill gaps with the instructions that the compiler fills them with
 AS_WRITTEN = {"x86_64": ["-march=x86-64-v2"], "aarch64": []}
 # a painted call has beside its own stack the arguments that are passed there, six at most, and the frame of who passes them
 CALLER = 64
@@ -35,7 +35,7 @@ def functions(text):
 
 
 def is_in_the_library(arch, crate):
-    """Whether the text, assembled, is byte for byte what the library has."""
+    """Whether the assembly makes, byte for byte, what the library has."""
     kit, again = subprocess.check_output(["sh", "tools/kit.sh"], text=True).strip(), f"target/bench/stack/{arch}-{crate}.o"
     words = [f"--target={arch}-unknown-linux-gnu", *AS_WRITTEN[arch], "-c", f"target/lib/{arch}/{crate}.s", "-o", again]
     subprocess.run([f"{kit}/bin/clang", *words], check=True)

@@ -22,7 +22,7 @@ emulator=
 arm=yes
 arm_emulator=
 [ "$(uname -m)" = aarch64 ] || arm_emulator=$(command -v qemu-aarch64) || arm=no
-for program in ${*:-judge tables rows titles texts ratings writing lent open close status fetch deliver}; do
+for program in ${*:-$(basename -s .c bench/stack/*.c)}; do
     case $program in
     open | close | status | fetch | deliver) # the shelf by value, as it is called from Rattle
         sh tools/staticlib.sh bench_calls x86_64

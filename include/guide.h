@@ -4,7 +4,7 @@
  * EVERY CALL answers a number of `enum guide_refusal`: GUIDE_DONE, or the one refusal that fits first in the order that the call names. A call that
  * is refused changes nothing of what it was lent. A call that is done writes what its comment says and nothing else. No call keeps a
  * pointer, allocates, or calls back; none needs more than it is given, so calls on different memory may run at the same time. None takes more than 6 KiB of
- * stack, whatever it is given (docs/SPEED.md says how much each takes).
+ * stack, whatever it is given, beside what memcpy and memset take (docs/SPEED.md says how much each takes).
  *
  * A BLANK IS NOT A NOUGHT. What is not there has a number of its own (GUIDE_NO_TITLE, GUIDE_NO_ADVISORY, GUIDE_NOTHING_HEARD, ..), and
  * the value that it does not have is GUIDE_NO_VALUE.

@@ -1,6 +1,6 @@
 #!/bin/sh
 # Prints the folder of a kit that writes a library as code for x86-64, as the kit does, and the same module into that folder: as Arm code too, aarch64.o;
-# and for each of the two the code as text, ARCH.s, and the frames of its functions, ARCH.su. It has links to the kit, and a clang that is called
+# and for each of the two the code as assembly, ARCH.s, and the frames of its functions, ARCH.su. It has links to the kit, and a clang that is called
 # again for each of these. What is proved is the same: the proof ends at the language's machine, whichever back end follows. Run it from the
 # repository's root.
 set -e

@@ -1,11 +1,12 @@
 #!/bin/sh
-# Proves a library and makes target/lib/ARCH/libNAME.a of it, for x86_64 and for aarch64: tools/staticlib.sh NAME [ARCH] fails where that for ARCH, this
-# machine's where none is named, was not made. What is newer than every source is left as it is, since the kit would prove it again. Run it
-# from the repository's root. The build says much; it is shown only where it fails.
+# Proves a library and makes target/lib/ARCH/libNAME.a of it, for x86_64 and for aarch64, with its code as assembly, NAME.s, and the frames of its functions,
+# NAME.su: tools/staticlib.sh NAME [ARCH] fails where that for ARCH, this machine's where none is named, was not made. What is newer than every source is
+# left as it is, since the kit would prove it again. Run it from the repository's root. The build says much; it is shown only where it fails.
 set -e
 lib=target/lib
-wanted=$lib/${2:-$(uname -m)}/lib$1.a
-if [ -e "$wanted" ] && [ -z "$(find crates crates.txt tools/*.sh -type f -newer "$wanted" -print -quit)" ]; then
+wanted=$lib/${2:-$(uname -m)}
+if [ -e "$wanted/lib$1.a" ] && [ -e "$wanted/$1.su" ] &&
+    [ -z "$(find crates crates.txt tools/staticlib.sh tools/kit_for_both.sh -type f -newer "$wanted/lib$1.a" -print -quit)" ]; then
     exit 0
 fi
 kit=$(sh tools/kit_for_both.sh)
@@ -19,8 +20,8 @@ for arch in x86_64 aarch64; do
     done
 done
 [ ! -e "$lib/aarch64/$1.o" ] || "$(sh tools/kit.sh)/bin/llvm-ar" rcs "$lib/aarch64/lib$1.a" "$lib/aarch64/$1.o"
-if [ ! -e "$wanted" ]; then
+if [ ! -e "$wanted/lib$1.a" ] || [ ! -e "$wanted/$1.su" ]; then
     echo "the compiler of the kit on this machine writes no such code:"
-    cat "$kit/aarch64.log"
+    cat "$kit/${wanted##*/}.log"
     exit 1
 fi

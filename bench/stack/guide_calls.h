@@ -11,9 +11,13 @@ static uint32_t refusal;
 #define CALL(call, ...) \
     static void run_##call(void) { refusal = call(asked.bytes, asked.n, __VA_ARGS__); }
 
+// Clears what the program's calls tell and store, so that no answer is taken for one of the call before.
+static void blank(void);
+
 // Paints it; `good` says afterwards whether it answered as it should.
 #define PAINT(call, good)                        \
     do {                                         \
+        blank();                                 \
         long taken = stack_of(run_##call);       \
         painted(#call, asked.name, taken, good); \
     } while (0)

@@ -7,6 +7,11 @@ static uint32_t offset;
 CALL(guide_judge, &header)
 CALL(guide_fault, &offset)
 
+static void blank(void) {
+    header = (guide_header){0};
+    offset = 0;
+}
+
 static void cut(Section *s) {
     s->n -= 5;
     seal(s);
@@ -26,7 +31,7 @@ int main(void) {
         asked = sections[k];
         PAINT(guide_fault, !refusal && offset == GUIDE_NO_VALUE);
         cut(&asked);
-        PAINT(guide_fault, !refusal && offset < asked.n);
+        PAINT(guide_fault, !refusal && 9 <= offset && offset < asked.n);
     }
     tell("guide_fault");
     return failed;

@@ -1,4 +1,4 @@
-// Sections of every kind, each as full as its kind allows in one way, and texts that are as long as their field allows.
+// Sections of every kind, each as full as its kind allows in one way, and long texts.
 #include "sections.h"
 
 static inline void put_word(Section *s, unsigned x) {
@@ -94,14 +94,36 @@ static inline void put_dimension(Section *s, unsigned values) {
         put_word(s, 0);
 }
 
-static inline void rrt(Section *s, const char *name, unsigned dimensions, unsigned values, unsigned descriptors) {
+// So many dimensions without a name, each of them of so many values; and one of fewer where there is room for no more of those.
+static inline void rrt(Section *s, const char *name, unsigned dimensions, unsigned values, unsigned fewer, unsigned descriptors) {
     begin(s, name, 0xCA);
     put(s, 0);
-    put(s, dimensions);
+    put(s, dimensions + !!fewer);
     for (unsigned i = 0; i < dimensions; i++)
         put_dimension(s, values);
+    if (fewer)
+        put_dimension(s, fewer);
     put_list(s, 6, descriptors);
     seal(s);
+}
+
+// How many values an RRT has in all, and its last dimension.
+typedef struct {
+    uint32_t all, last;
+} Values;
+
+static inline Values values_in(const Section *s) {
+    const uint8_t *b = s->bytes;
+    size_t at = 10 + b[9];
+    Values found = {0, 0};
+    for (int left = b[at++]; left; left--) {
+        at += 1 + b[at];
+        found.last = b[at++] & 15;
+        found.all += found.last;
+        for (uint32_t texts = 2 * found.last; texts; texts--)
+            at += 1 + b[at];
+    }
+    return found;
 }
 
 // A region, a dimension and a value, all named.
@@ -201,18 +223,24 @@ static inline void many_strings(Section *s) {
 }
 
 // ---- all of them
-enum { TABLES = 370, CHANNELS = 31, DIMENSIONS = 251, GRADED = 31, GRADES = 15, FULL = 17 };
+// How many entries a section has: tables, channels, dimensions or events.
+static inline uint32_t entries_in(const Section *s) {
+    const uint8_t *b = s->bytes;
+    return b[0] == 0xC7 ? b[9] << 8 | b[10] : b[0] == 0xCA ? b[10 + b[9]] : b[9];
+}
+
+enum { FULL = 17 };
 
 static inline void full_sections(Section *s) {
     full_mgt(s++);
-    mgt(s++, "MGT, 370 tables", TABLES, 0);
+    mgt(s++, "MGT, 370 tables", 370, 0);
     mgt(s++, "MGT, one table, 2034 descriptors", 1, 2034);
-    tvct(s++, "TVCT, 31 channels", CHANNELS, 0, 0);
+    tvct(s++, "TVCT, 31 channels", 31, 0, 0);
     tvct(s++, "TVCT, one channel, 488 descriptors", 1, 488, 0);
     tvct(s++, "TVCT, no channel, 504 descriptors", 0, 0, 504);
-    rrt(s++, "RRT, 251 dimensions of one value", DIMENSIONS, 1, 0);
-    rrt(s++, "RRT, 31 dimensions of 15 values", GRADED, GRADES, 0);
-    rrt(s++, "RRT, one dimension, 501 descriptors", 1, 1, 501);
+    rrt(s++, "RRT, 251 dimensions of one value", 251, 1, 0, 0);
+    rrt(s++, "RRT, 471 values", 31, 15, 6, 0);
+    rrt(s++, "RRT, one dimension, 501 descriptors", 1, 1, 0, 501);
     named_rrt(s++);
     full_event(s++);
     smallest_events(s++);

@@ -1,4 +1,4 @@
-// Ratings and descriptors: what stands last in the longest list that there is, of an event and by itself.
+// Ratings and descriptors: what stands last in a list of 1,780 descriptors, of an event and by itself.
 #include "guide_calls.h"
 
 static uint32_t k;
@@ -13,19 +13,22 @@ CALL(guide_list_rating, REGION, DIMENSION, &rating)
 CALL(guide_list_descriptor, k, &descriptor)
 CALL(guide_list_advisory, REGION, &text)
 
+static void blank(void) {
+    rating = (guide_rating_told){0};
+    descriptor = (guide_descriptor_told){0};
+    text = (guide_part){0};
+}
+
 static int rated(void) { return !refusal && rating.answer == GUIDE_VALUE && rating.value == RATED; }
 
 static int advisory_last(void) { return !refusal && descriptor.tag == 0x87 && descriptor.content.length == ADVISORY; }
 
 static int advised(void) { return !refusal && text.length == ADVISORY_TEXT; }
 
-#define TOLD(name, good)                         \
-    do {                                         \
-        rating = (guide_rating_told){0};         \
-        descriptor = (guide_descriptor_told){0}; \
-        text = (guide_part){0};                  \
-        PAINT(name, good);                       \
-        tell(#name);                             \
+#define TOLD(name, good)   \
+    do {                   \
+        PAINT(name, good); \
+        tell(#name);       \
     } while (0)
 
 int main(void) {

@@ -1,4 +1,4 @@
-// Reading texts: each of the seven of a section, and those of fields by themselves, as long as their field allows.
+// Reading texts: each of the seven of a section, and those of fields by themselves, compressed and plain.
 #include "guide_calls.h"
 
 static guide_which which;
@@ -15,6 +15,13 @@ CALL(guide_field_strings, &count)
 CALL(guide_field_heading, string, &heading)
 CALL(guide_field_units, string, &told)
 CALL(guide_field_text, string, units, 8 * LONGEST, &told)
+
+static void blank(void) {
+    count = 0;
+    heading = (guide_heading_told){.segments = 1000};
+    told = (guide_units_told){0};
+    memset(units, 0, sizeof units);
+}
 
 enum { ENGLISH = 'e' << 16 | 'n' << 8 | 'g' };
 
@@ -84,10 +91,6 @@ static int ends_well(const Text *t) {
         for (const Text *t = texts; t < texts + sizeof texts / sizeof *t; t++) { \
             t->in(&asked);                                                       \
             which = (guide_which){t->text, t->i, t->j, 0};                       \
-            count = 0;                                                           \
-            heading = (guide_heading_told){0};                                   \
-            told = (guide_units_told){0};                                        \
-            units[t->units - 1] = 0;                                             \
             PAINT(name, !refusal && (good));                                     \
         }                                                                        \
     } while (0)
@@ -97,7 +100,6 @@ static int ends_well(const Text *t) {
     do {                                                                           \
         which = (guide_which){GUIDE_EXTENDED_TEXT, 0, 0, STRINGS - 1};             \
         string = STRINGS - 1;                                                      \
-        heading = (guide_heading_told){0, 1};                                      \
         PAINT(name, !refusal && heading.language == ENGLISH && !heading.segments); \
         string = 0;                                                                \
     } while (0)

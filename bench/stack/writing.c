@@ -13,10 +13,14 @@ static void run_guide_write_eit(void) {
 
 static void run_guide_write_ett(void) { refusal = guide_write_ett(&given, asked.bytes + text.start, text.length, out, LONGEST, &length); }
 
-// What a section of these has besides its events or text; and an output of nothing but 0.
-static void blank(uint32_t events) {
-    given = (guide_given){.extension = 7, .version = 3, .current = 1, .events = events};
+static void blank(void) {
     memset(out, 0, LONGEST);
+    length = 0;
+}
+
+// What a section of these has, besides its rows or its text.
+static guide_given given_with(uint32_t events) {
+    return (guide_given){.extension = 7, .version = 3, .current = 1, .events = events};
 }
 
 static int as_before(void) { return !refusal && length == asked.n && same(out, asked.bytes, length); }
@@ -26,7 +30,7 @@ static void write_eit(void (*made)(Section *)) {
     made(&asked);
     if (guide_eit_events(asked.bytes, asked.n, rows, GUIDE_NUMBERS(rows), &events))
         events = 0;
-    blank(events);
+    given = given_with(events);
     PAINT(guide_write_eit, as_before());
 }
 
@@ -35,7 +39,7 @@ static void write_ett(void (*made)(Section *)) {
     made(&asked);
     guide_ett(asked.bytes, asked.n, &fields);
     text = fields.text;
-    blank(fields.etm_id);
+    given = given_with(fields.etm_id);
     PAINT(guide_write_ett, as_before());
 }
 

@@ -7,10 +7,7 @@ enum { READ = 0, WRITE = 1, EXIT = 60 };
 __asm__(".globl _start\n"
         "_start:\n"
         "    xor %ebp, %ebp\n"
-        "    call main\n"
-        "    mov %eax, %edi\n"
-        "    mov $60, %eax\n"
-        "    syscall");
+        "    call run");
 
 void *memcpy(void *to, const void *from, size_t n) {
     void *first = to;
@@ -34,9 +31,7 @@ enum { READ = 63, WRITE = 64, EXIT = 93 };
 __asm__(".globl _start\n"
         "_start:\n"
         "    mov x29, #0\n"
-        "    bl main\n"
-        "    mov x8, #93\n"
-        "    svc #0");
+        "    bl run");
 
 void *memcpy(void *to, const void *from, size_t n) {
     void *first = to;
@@ -121,3 +116,8 @@ static inline void stop(int status) {
     system_call(EXIT, status, 0, 0);
     __builtin_unreachable();
 }
+
+int main(void);
+
+// What the start calls.
+__attribute__((used)) static void run(void) { stop(main()); }
