@@ -13,7 +13,7 @@ enum { ROUNDS = 9, CALLS = 16384 };
 static uint32_t question[QUESTION] = {0, 0xCB, 7, 0};
 
 static uint32_t made(guide_shelf_call c, const Section *s) {
-    return call_on(c, lent.watch, RECORDS, lent.place[0], PLACES * ROW, area, sizeof area, s->bytes, s->n, question, QUESTION, lent.reply, REPLY);
+    return call_on(c, held.watch, RECORDS, held.place[0], PLACES * ROW, area, sizeof area, s->bytes, s->n, question, QUESTION, held.reply, REPLY);
 }
 
 // The section with another version and number.
