@@ -74,7 +74,7 @@ enum guide_refusal {
 #define GUIDE_NUMBERS(array) (sizeof(array) / 4)
 
 /* The table_ids of the kinds. */
-enum guide_kind { GUIDE_MGT = 0xC7, GUIDE_TVCT = 0xC8, GUIDE_CVCT = 0xC9, GUIDE_RRT = 0xCA, GUIDE_EIT = 0xCB, GUIDE_ETT = 0xCC };
+enum guide_kind { GUIDE_MGT = 0xC7, GUIDE_TVCT = 0xC8, GUIDE_RRT = 0xCA, GUIDE_EIT = 0xCB, GUIDE_ETT = 0xCC };
 
 /* A section has at most so many bytes and entries. */
 enum { GUIDE_LONGEST = 4096, GUIDE_MOST_TABLES = 370, GUIDE_MOST_CHANNELS = 255, GUIDE_MOST_DIMENSIONS = 255, GUIDE_MOST_VALUES = 512, GUIDE_MOST_EVENTS = 255 };
@@ -119,23 +119,6 @@ typedef struct {
 } guide_channel_fields;
 
 typedef struct {
-    uint32_t tsid, channels;
-    guide_part descriptors;
-} guide_cvct_fields;
-
-/* The source of a cable channel. */
-enum guide_source { GUIDE_NOT_IDENTIFIED = 1, GUIDE_SOURCE = 2 };
-
-typedef struct {
-    uint32_t name[7]; /* UTF-16, behind its end zeros */
-    uint32_t major, minor, modulation, carrier, channel_tsid, program_number;
-    uint32_t etm_location, access_controlled, hidden, path_select, out_of_band, four_bits, service_type;
-    uint32_t source;    /* guide_source */
-    uint32_t source_id; /* GUIDE_NO_VALUE where the source is not identified */
-    guide_part descriptors;
-} guide_cable_channel_fields;
-
-typedef struct {
     uint32_t extension, region;
     guide_part name;
     uint32_t dimensions;
@@ -174,25 +157,12 @@ uint32_t guide_mgt(const uint8_t *section, size_t n, guide_mgt_fields *fields);
 uint32_t guide_mgt_table(const uint8_t *section, size_t n, uint32_t i, guide_table_fields *fields);
 uint32_t guide_tvct(const uint8_t *section, size_t n, guide_tvct_fields *fields);
 uint32_t guide_tvct_channel(const uint8_t *section, size_t n, uint32_t i, guide_channel_fields *fields);
-uint32_t guide_cvct(const uint8_t *section, size_t n, guide_cvct_fields *fields);
-uint32_t guide_cvct_channel(const uint8_t *section, size_t n, uint32_t i, guide_cable_channel_fields *fields);
 uint32_t guide_rrt(const uint8_t *section, size_t n, guide_rrt_fields *fields);
 uint32_t guide_rrt_dimension(const uint8_t *section, size_t n, uint32_t i, guide_dimension_fields *fields);
 uint32_t guide_rrt_value(const uint8_t *section, size_t n, uint32_t i, uint32_t j, guide_value_fields *fields);
 uint32_t guide_eit(const uint8_t *section, size_t n, guide_eit_fields *fields);
 uint32_t guide_eit_event(const uint8_t *section, size_t n, uint32_t i, guide_event_fields *fields);
 uint32_t guide_ett(const uint8_t *section, size_t n, guide_ett_fields *fields);
-
-/* ---- the number under which a cable channel is shown: two parts, major 1 to 999 and minor 0 to 999. Another pair is no channel of a remote control,
- * and has an answer of its own. Never refused. */
-enum guide_number_answer { GUIDE_NO_CHANNEL_NUMBER = 1, GUIDE_TWO_PARTS = 2 };
-
-typedef struct {
-    uint32_t answer;
-    uint32_t major, minor; /* GUIDE_NO_VALUE twice where the answer is not GUIDE_TWO_PARTS */
-} guide_number_told;
-
-uint32_t guide_cable_number(uint32_t major, uint32_t minor, guide_number_told *told);
 
 /* ---- all entries of a table, judged once: from the beginning of `rows`, which has room for so many numbers of 32 bits. `count` is how many
  * rows there are. Refused by 1 to 9, then by 12 where the rows have no room. */
@@ -208,7 +178,6 @@ typedef struct {
 
 uint32_t guide_mgt_tables(const uint8_t *section, size_t n, guide_table_fields *rows, size_t numbers, uint32_t *count);
 uint32_t guide_tvct_channels(const uint8_t *section, size_t n, guide_channel_fields *rows, size_t numbers, uint32_t *count);
-uint32_t guide_cvct_channels(const uint8_t *section, size_t n, guide_cable_channel_fields *rows, size_t numbers, uint32_t *count);
 uint32_t guide_rrt_dimensions(const uint8_t *section, size_t n, guide_dimension_fields *rows, size_t numbers, uint32_t *count);
 uint32_t guide_rrt_values(const uint8_t *section, size_t n, guide_value_row *rows, size_t numbers, uint32_t *count);
 uint32_t guide_eit_events(const uint8_t *section, size_t n, guide_event_row *rows, size_t numbers, uint32_t *count);

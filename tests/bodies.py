@@ -4,7 +4,7 @@ The offset of a failure counts from the section's first byte and is that of the 
 field cut short, a length that promises too much, the first byte left over, an RRT count of 0.
 Reserved bits are part of the field that they lead.
 """
-from sections import CVCT, EIT, ETT, MGT, RRT, TVCT, header_outcome
+from sections import EIT, ETT, MGT, RRT, TVCT, header_outcome
 
 
 class Fault(Exception):
@@ -100,8 +100,7 @@ def mgt(body):
     body.filled()
 
 
-def channels(body, widths):
-    """A TVCT or a CVCT: they differ in the fields between hidden and service_type, which have these widths."""
+def tvct(body):
     for _ in range(body.field(8)):  # count
         body.field(7 * 16)  # short_name
         body.field(10, reserved=4)  # major
@@ -113,21 +112,12 @@ def channels(body, widths):
         body.field(2)  # ETM_location
         body.field(1)  # access_controlled
         body.field(1)  # hidden
-        for width in widths:
-            body.field(width)
+        body.field(6)  # the six bits
         body.field(6)  # service_type
         body.field(16)  # source_id
         descriptors(body.part(10, reserved=6))
     descriptors(body.part(10, reserved=6))
     body.filled()
-
-
-def tvct(body):
-    channels(body, (6,))  # the six bits
-
-
-def cvct(body):
-    channels(body, (1, 1, 4))  # path_select, out_of_band, the four bits
 
 
 def rrt(body):
@@ -158,7 +148,7 @@ def ett(body):
     structure(body)
 
 
-WALKS = {MGT: mgt, TVCT: tvct, CVCT: cvct, RRT: rrt, EIT: eit, ETT: ett}
+WALKS = {MGT: mgt, TVCT: tvct, RRT: rrt, EIT: eit, ETT: ett}
 
 
 def body_outcome(s):

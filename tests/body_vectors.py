@@ -9,7 +9,7 @@ import collections
 import random
 
 from bodies import section_outcome
-from sections import BESIDE, CVCT, EIT, ETT, KINDS, MGT, RRT, TVCT, sealed, section
+from sections import EIT, ETT, KINDS, MGT, RRT, TVCT, sealed, section
 
 HEAD = {"extension": 0x0107, "version": 3, "current": 1, "number": 0, "last": 0}
 RESERVED = {  # field: its reserved bits
@@ -46,8 +46,7 @@ def mgt(tables, d=b""):
 
 
 def channel(d=b"", short_name="WSPG-TV", flags_type=0x0002):
-    """`flags_type`: ETM_location, access_controlled, hidden, six bits, service_type. Of a cable channel the six
-    are path_select, out_of_band and the four bits."""
+    """`flags_type`: ETM_location, access_controlled, hidden, the six bits, service_type."""
     return ([("short_name", short_name.encode("utf-16-be"))]
             + number("major_minor", 7 << 10 | 1, 3) + number("modulation", 4)
             + number("carrier", 0, 4) + number("channel_TSID", 0x0BEE, 2)
@@ -55,8 +54,7 @@ def channel(d=b"", short_name="WSPG-TV", flags_type=0x0002):
             + number("source_id", 7, 2) + list10(d))
 
 
-def vct(channels, d=b""):
-    """The body of a TVCT or of a CVCT."""
+def tvct(channels, d=b""):
     return number("count", len(channels)) + sum(channels, []) + list10(d)
 
 
@@ -185,12 +183,10 @@ D = b"\x80\2ab"
 ADVISORY = b"\xc1\1\1\0\xf3\x0b" + TEA
 RATED = descriptor(0x87, ADVISORY)  # 19 bytes
 BLANK = dimension(b"", [value()])
-VCTS = (TVCT, CVCT)  # the channel tables, whose bodies are judged alike
-SMALLEST = {MGT: mgt([]), TVCT: vct([]), CVCT: vct([]), RRT: rrt(b"", [BLANK]), EIT: eit([]), ETT: ett(b"\0")}
+SMALLEST = {MGT: mgt([]), TVCT: tvct([]), RRT: rrt(b"", [BLANK]), EIT: eit([]), ETT: ett(b"\0")}
 SAMPLES = {
     MGT: mgt([table(D), table(), table(D)], D),
-    TVCT: vct([channel(D), channel(), channel(D)], D),
-    CVCT: vct([channel(D), channel(), channel(D)], D),
+    TVCT: tvct([channel(D), channel(), channel(D)], D),
     RRT: rrt(TEA, [dimension(TEA, [value(TEA, TEA), value()], graduated=1),
                    dimension(b"", [value(), value(TEA, b"\0")])], D),
     EIT: eit([event(TEA, RATED + D), event(b"\0", D), event()]),
@@ -205,8 +201,7 @@ for table_id, (_, smallest, _, _) in KINDS.items():
 passes(EIT, eit([event(TEA)]), size=34)
 passes(EIT, eit([event(), event(b"\0"), event(TEA)]), number=3, last=3, current=0)
 passes(EIT, SAMPLES[EIT], extension=0xFFFF, version=31, number=0, last=255)
-for table_id in VCTS:
-    passes(table_id, SAMPLES[table_id], extension=0, version=0, number=255, last=255)
+passes(TVCT, SAMPLES[TVCT], extension=0, version=0, number=255, last=255)
 
 sort = "sound and large"
 passes(MGT, mgt([table()] * 370, list_of(9)), size=4093)
@@ -214,10 +209,9 @@ passes(MGT, mgt([table()] * 256), ones=0)
 passes(MGT, mgt([table(list_of(4068))]), size=4093)
 passes(MGT, mgt([], list_of(4079)), size=4093)
 passes(MGT, mgt([], b"\x80\0" * 2039), size=4092)
-for table_id in VCTS:
-    passes(table_id, vct([channel()] * 31, list_of(16)), size=1021)
-    passes(table_id, vct([channel(list_of(976))]), size=1021)
-    passes(table_id, vct([], list_of(1008)), size=1021)
+passes(TVCT, tvct([channel()] * 31, list_of(16)), size=1021)
+passes(TVCT, tvct([channel(list_of(976))]), size=1021)
+passes(TVCT, tvct([], list_of(1008)), size=1021)
 passes(RRT, rrt(b"", [dimension(b"", [value()] * 15)] * 31, list_of(15)), size=1021)
 passes(RRT, rrt(b"", [BLANK] * 251, list_of(3)), size=1021)
 FULL = text_of(255)
@@ -236,9 +230,8 @@ passes(ETT, ett(strings(string(*[b""] * 255))))
 sort = "faulty at the end of the largest"
 fails(4092, MGT, mgt([table(list_of(4070))])[:-2])
 fails(4091, MGT, mgt([], list_of(4078)) + over(b"\0"))
-for table_id in VCTS:
-    fails(1020, table_id, vct([channel(list_of(978))])[:-2])
-    fails(1019, table_id, vct([], list_of(1007)) + over(b"\0"))
+fails(1020, TVCT, tvct([channel(list_of(978))])[:-2])
+fails(1019, TVCT, tvct([], list_of(1007)) + over(b"\0"))
 fails(1020, RRT, rrt(FULL, [dimension(FULL, [value(FULL, text_of(240))])])[:-2])
 fails(1019, RRT, rrt(b"", [BLANK] * 251, list_of(2)) + over(b"\0"))
 fails(4092, EIT, off(eit([event(b"", list_of(4070))]), "count", 1))
@@ -304,9 +297,8 @@ def with_list(d):
     """Sections with the list in each place for one, and its offset."""
     yield MGT, mgt([table(d)]), 22
     yield MGT, mgt([], d), 13
-    for table_id in VCTS:
-        yield table_id, vct([channel(d)]), 42
-        yield table_id, vct([], d), 12
+    yield TVCT, tvct([channel(d)]), 42
+    yield TVCT, tvct([], d), 12
     yield RRT, rrt(b"", [BLANK], d), 17
     yield EIT, eit([event(b"", d)]), 22
 
@@ -367,9 +359,8 @@ def cut(table_id, fields, *parts):
 
 
 cut(MGT, mgt([table(), table(D)], D), (0, [0] * 2), (2, TABLE), (13, TABLE + [9] * 4), (28, [0] * 6))
-for table_id in VCTS:
-    cut(table_id, vct([channel(), channel(D)], D), (0, [0]), (1, CHANNEL), (33, CHANNEL + [30] * 4),
-        (69, [0] * 6))
+cut(TVCT, tvct([channel(), channel(D)], D), (0, [0]), (1, CHANNEL), (33, CHANNEL + [30] * 4),
+    (69, [0] * 6))
 cut(RRT, rrt(TEA, [dimension(TEA, [value(TEA, TEA)]), BLANK], D), (0, [0] * 12 + [12]),
     (13, [0] * 12 + [12]), (26, [0] * 12 + [12] * 12), (50, [0, 1, 2, 3]), (54, [0] * 6))
 cut(EIT, eit([event(), event(TEA, RATED + D)]), (0, [0]), (1, EVENT + [10] * 2),
@@ -401,22 +392,21 @@ fails(13, MGT, off(mgt([]), "count", 1))
 fails(13, MGT, off(mgt([]), "count", 65535))
 fails(13, MGT, off(mgt([table(table_type=0)] * 256), "count", -256), ones=0)
 
-for table_id in VCTS:
-    p = SAMPLES[table_id]
-    fails(place(p, "list10", 3), table_id, off(p, "count", 1))
-    fails(place(p, "short_name", 2), table_id, off(p, "count", -1))
-    fails(place(p, "short_name", 1) + 1, table_id, off(p, "list10", 1))
-    fails(place(p, "list") + 1, table_id, off(p, "list10", -1))
-    fails(place(p, "list10", 3) + 1, table_id, off(p, "list10", 1, 2))
-    fails(place(p, "list", 2) + 1, table_id, off(p, "list10", -1, 2))
-    fails(place(p, "list10", 3), table_id, off(p, "list10", 1, 3))
-    fails(place(p, "list", 3) + 1, table_id, off(p, "list10", -1, 3))
-    fails(place(p, "list", 3), table_id, off(p, "list10", -4, 3))
-    for by in (256, 512):
-        for k in (0, 3):
-            fails(place(p, "list10", k), table_id, off(p, "list10", by, k))
-    fails(10, table_id, off(vct([]), "count", 255))
-    fails(12, table_id, off(vct([channel(short_name="\0" * 7)]), "count", -1))
+p = SAMPLES[TVCT]
+fails(place(p, "list10", 3), TVCT, off(p, "count", 1))
+fails(place(p, "short_name", 2), TVCT, off(p, "count", -1))
+fails(place(p, "short_name", 1) + 1, TVCT, off(p, "list10", 1))
+fails(place(p, "list") + 1, TVCT, off(p, "list10", -1))
+fails(place(p, "list10", 3) + 1, TVCT, off(p, "list10", 1, 2))
+fails(place(p, "list", 2) + 1, TVCT, off(p, "list10", -1, 2))
+fails(place(p, "list10", 3), TVCT, off(p, "list10", 1, 3))
+fails(place(p, "list", 3) + 1, TVCT, off(p, "list10", -1, 3))
+fails(place(p, "list", 3), TVCT, off(p, "list10", -4, 3))
+for by in (256, 512):
+    for k in (0, 3):
+        fails(place(p, "list10", k), TVCT, off(p, "list10", by, k))
+fails(10, TVCT, off(tvct([]), "count", 255))
+fails(12, TVCT, off(tvct([channel(short_name="\0" * 7)]), "count", -1))
 
 p = SAMPLES[RRT]  # text 0: region; 1: name; 2 to 5: values; 6: name; 7 to 10: values
 fails(place(p, "count"), RRT, off(p, "text_length", 1))
@@ -484,9 +474,8 @@ for bits in range(16):
     passes(RRT, rrt(b"", [dimension(b"", [value()], bits & 1)], D), ones=bits >> 1)
 
 sort = "reserved bits, the six bits"
-for table_id in VCTS:
-    for ones in range(64):
-        passes(table_id, vct([channel(D, flags_type=ones % 16 << 12 | ones << 6 | 63 - ones)], D), ones=ones)
+for ones in range(64):
+    passes(TVCT, tvct([channel(D, flags_type=ones % 16 << 12 | ones << 6 | 63 - ones)], D), ones=ones)
 for ones in range(1, 15):
     for table_id in (MGT, RRT, EIT):
         passes(table_id, SAMPLES[table_id], ones=ones)
@@ -514,8 +503,7 @@ fails(15, RRT, off(rrt(b"", [dimension(b"", [value(BAD)])]), "text_length", 100,
 fails(25, MGT, mgt([table()], b"\x80") + over(b"\0"))
 for by in (0, 1):
     fails(23, MGT, off(mgt([table(b"\x80"), table(b"\x80")], b"\x80"), "count", by))
-    for table_id in VCTS:
-        fails(43, table_id, off(vct([channel(b"\x80"), channel(b"\x80")], b"\x80"), "count", by))
+    fails(43, TVCT, off(tvct([channel(b"\x80"), channel(b"\x80")], b"\x80"), "count", by))
 
 sort = "order of the tests, and the kind asked for"
 for table_id, (_, smallest, largest, most) in KINDS.items():
@@ -536,8 +524,6 @@ for table_id, (_, smallest, largest, most) in KINDS.items():
     for other in KINDS:
         if other != table_id:
             add(2, s, other)
-    for other in BESIDE:
-        add(2, made(other, p), table_id)
     fails(end(p), table_id, faulty, table_id)
     passes(table_id, p, table_id)
 
@@ -564,7 +550,7 @@ if __name__ == "__main__":
     rows = collections.defaultdict(collections.Counter)
     for column in range(3):
         for sort, _, s, said in vectors:
-            row = (sort, KINDS.get(s[0], ("none of the six",))[0], "all")[column]
+            row = (sort, KINDS[s[0]][0], "all")[column]
             rows[row].update((answer(said)[0], "all"))
     columns = sorted(rows["all"])
     print("%-42s" % "" + "".join("%10s" % column for column in columns))

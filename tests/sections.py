@@ -3,13 +3,11 @@
 KINDS = {  # table_id: (name, smallest, largest, largest last_section_number)
     0xC7: ("mgt", 14, 4093, 0),
     0xC8: ("tvct", 13, 1021, 255),
-    0xC9: ("cvct", 13, 1021, 255),
     0xCA: ("rrt", 18, 1021, 0),
     0xCB: ("eit", 11, 4093, 255),
     0xCC: ("ett", 15, 4093, 0),
 }
-MGT, TVCT, CVCT, RRT, EIT, ETT = KINDS
-BESIDE = (0xC6, 0xCD)  # the table_ids next to the six, which 2 refuses
+MGT, TVCT, RRT, EIT, ETT = KINDS
 
 
 def byte_in(r, byte):
@@ -78,7 +76,7 @@ def header_outcome(s, asked=0):
 def spoiled(s):
     """A sound section spoiled in nine ways, for which it is refused by 1 to 9."""
     kind, body = s[0], s[9:-4]
-    return [s[:2], sealed(bytes([BESIDE[0]]) + s[1:-4]), section(kind, body, flags=0x7),
+    return [s[:2], sealed(b"\xc9" + s[1:-4]), section(kind, body, flags=0x7),
             section(kind, bytes(KINDS[kind][1] - 11)), s + b"\0", s[:-1] + bytes([s[-1] ^ 1]),
             section(kind, body, protocol=1), section(kind, body, number=1),
             section(kind, body + b"\0")]

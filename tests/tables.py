@@ -1,7 +1,7 @@
-"""A reader of the fields of the six tables, and of an event's first advisory, from SCOPE 2 and 3 and from nothing of the
+"""A reader of the fields of the five tables, and of an event's first advisory, from SCOPE 2 and 3 and from nothing of the
 library. Texts and descriptor lists are read as the offset of their first byte and their length."""
 from bodies import section_outcome
-from sections import CVCT, EIT, ETT, MGT, RRT, TVCT, Refused
+from sections import EIT, ETT, MGT, RRT, TVCT, Refused
 
 ADVISORY = 0x87
 
@@ -61,8 +61,7 @@ def read_mgt(body, _):
     return [len(tables)] + body.place(12), tables
 
 
-def read_channels(body, extension, widths):
-    """A TVCT or a CVCT; `widths`: of the fields between hidden and service_type."""
+def read_tvct(body, extension):
     channels = []
     for _ in range(body.take(8)):
         channel = [body.take(16) for _ in range(7)]  # short_name
@@ -71,20 +70,11 @@ def read_channels(body, extension, widths):
         channel += [body.take(8), body.take(32)]  # modulation, carrier
         channel += [body.take(16), body.take(16)]  # channel_TSID, program_number
         channel += [body.take(2), body.take(1), body.take(1)]  # ETM_location, access, hidden
-        channel += [body.take(width) for width in widths]
-        channel += [body.take(6), body.take(16)]  # service_type, source_id
+        channel += [body.take(6), body.take(6), body.take(16)]  # six bits, service_type, source_id
         body.reserved(6)
         channels.append(channel + body.place(10))
     body.reserved(6)
     return [extension, len(channels)] + body.place(10), channels
-
-
-def read_tvct(body, extension):
-    return read_channels(body, extension, [6])  # the six bits
-
-
-def read_cvct(body, extension):
-    return read_channels(body, extension, [1, 1, 4])  # path_select, out_of_band, the four bits
 
 
 def read_rrt(body, extension):
@@ -122,7 +112,7 @@ def read_regions(s, start):
     return regions
 
 
-READ = {EIT: read_eit, ETT: read_ett, MGT: read_mgt, TVCT: read_tvct, CVCT: read_cvct, RRT: read_rrt}
+READ = {EIT: read_eit, ETT: read_ett, MGT: read_mgt, TVCT: read_tvct, RRT: read_rrt}
 
 
 def read(s, kind):

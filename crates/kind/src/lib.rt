@@ -1,12 +1,13 @@
 // The table kinds: what the table of SCOPE 1.5 says of each, in constants of the type.
-use refusal::Refusal;
-ghost use mathlib.Core.Path.{_≡_};
-ghost use Rattle·kind·specs.specs.Kinds.{limits_of, table_id_of, kind_of, only_of};
+ghost use Rattle.std.specs.Prelude.{◌≡◌};
+ghost use Rattle.kind.specs.Kinds.{limits_of, table_id_of, kind_of, only_of};
 
+use refusal::Refusal;
+
+#[derive(Drop)]
 pub enum Kind {
     Mgt,
     Tvct,
-    Cvct,
     Rrt,
     Eit,
     Ett,
@@ -15,6 +16,7 @@ pub enum Kind {
 // The range of section_length, the largest last_section_number, the offset of the byte that must be 0
 // and the refusal where it is not, the offset of the body's first byte, and whether a watch may be
 // opened on the kind.
+#[derive(Drop)]
 pub struct Limits {
     pub smallest: usize,
     pub largest: usize,
@@ -26,6 +28,7 @@ pub struct Limits {
 }
 
 // The kind that has a table_id, where a call reads it.
+#[derive(Drop)]
 pub enum Found {
     Is(Kind),
     Nothing,
@@ -35,8 +38,6 @@ impl Kind {
     pub const MGT: usize = 0xC7;
 
     pub const TVCT: usize = 0xC8;
-
-    pub const CVCT: usize = 0xC9;
 
     pub const RRT: usize = 0xCA;
 
@@ -55,16 +56,6 @@ impl Kind {
     };
 
     pub const TVCT_LIMITS: Limits = Limits {
-        smallest: 13,
-        largest: 1021,
-        last: 255,
-        zero_byte: 8,
-        zero_refusal: Refusal::ProtocolVersion,
-        body: 9,
-        watched: true,
-    };
-
-    pub const CVCT_LIMITS: Limits = Limits {
         smallest: 13,
         largest: 1021,
         last: 255,
@@ -105,12 +96,11 @@ impl Kind {
     };
 
     pub fn limits(self) -> Limits
-        ensures { λ r. ⌜ r ≡ limits_of self ⌝ }
+        ensures { result ≡ limits_of self }
     {
         match self {
             Kind::Mgt => Kind::MGT_LIMITS,
             Kind::Tvct => Kind::TVCT_LIMITS,
-            Kind::Cvct => Kind::CVCT_LIMITS,
             Kind::Rrt => Kind::RRT_LIMITS,
             Kind::Eit => Kind::EIT_LIMITS,
             Kind::Ett => Kind::ETT_LIMITS,
@@ -118,12 +108,11 @@ impl Kind {
     }
 
     pub fn table_id(self) -> usize
-        ensures { λ r. ⌜ r ≡ table_id_of self ⌝ }
+        ensures { result ≡ table_id_of self }
     {
         match self {
             Kind::Mgt => Kind::MGT,
             Kind::Tvct => Kind::TVCT,
-            Kind::Cvct => Kind::CVCT,
             Kind::Rrt => Kind::RRT,
             Kind::Eit => Kind::EIT,
             Kind::Ett => Kind::ETT,
@@ -132,12 +121,11 @@ impl Kind {
 
     // For a call that reads every kind.
     pub fn of(id: usize) -> Found
-        ensures { λ r. ⌜ r ≡ kind_of id ⌝ }
+        ensures { result ≡ kind_of id }
     {
         match id {
             Kind::MGT => Found::Is(Kind::Mgt),
             Kind::TVCT => Found::Is(Kind::Tvct),
-            Kind::CVCT => Found::Is(Kind::Cvct),
             Kind::RRT => Found::Is(Kind::Rrt),
             Kind::EIT => Found::Is(Kind::Eit),
             Kind::ETT => Found::Is(Kind::Ett),
@@ -147,7 +135,7 @@ impl Kind {
 
     // For a call that reads this kind alone.
     pub fn only(self, id: usize) -> Found
-        ensures { λ r. ⌜ r ≡ only_of self id ⌝ }
+        ensures { result ≡ only_of self id }
     {
         if id == self.table_id() {
             Found::Is(self)
