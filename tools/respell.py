@@ -28,8 +28,9 @@ LEMMAS = {
     "part_sound": "crates/eit/proofs/GivenLaws",
     "row_fits": "crates/writing_laws/proofs/EitLaws",
     "rows_told": "crates/writing_laws/",
-    "of_entry": "crates/section_laws/proofs/PartLaws",
+    "of_entry": "crates/section_laws/proofs/",
     "same_key": "crates/shelf_laws/proofs/DeliverLaws",
+    "byte-at": "crates/text/proofs/UnitLaws",
     "in-range": "",
     "bit-xor": "",
 }
@@ -44,25 +45,15 @@ def snake(name):
 
 
 def declared(path):
-    """The names that a file declares at its head, and its constructors and fields."""
-    heads, inner, within = [], [], False
+    """The names that a file declares: at its head, in its modules and records, and beside a proof."""
+    found = []
     for line in open(path, encoding="utf-8"):
-        m = re.match(r"(?:abbrev |unfoldable |pub )*(data|record)\s+(\S+)", line)
-        if m:
-            heads.append(m[2])
-            within = True
-            continue
-        if re.match(r"\S", line):
-            if not line.startswith("--"):
-                within = False
-            m = re.match(r"(?:abbrev |unfoldable |pub )*([^\s:(){}]+)\s*:(?!=)", line)
-            if m and not line.startswith(("--", "use ")):
-                heads.append(m[1])
-        elif within:
-            m = re.match(r"\s+(?:pub )?([^\s:(){}]+)\s*:(?!=)", line)
-            if m and not line.lstrip().startswith("--"):
-                inner.append(m[1])
-    return heads, inner
+        m = re.match(r"\s*(?:abbrev |unfoldable |pub )*(?:data|record) (\S+)", line) or re.match(
+            r"\s*(?:abbrev |unfoldable |pub )*([^\s:(){}]+)\s*:(?!=)", line
+        )
+        if m and not line.lstrip().startswith(("--", "use ")):
+            found.append(m[1])
+    return found
 
 
 def sources(root):
@@ -72,17 +63,12 @@ def sources(root):
 
 
 def names(root):
-    heads, inner = set(), set()
-    for p in sources(root):
-        h, i = declared(p)
-        heads.update(h)
-        inner.update(i)
+    found = set(n for p in sources(root) for n in declared(p))
     turn = {}
-    for n in sorted(heads | inner):
+    for n in sorted(found):
         to = NAMED.get(n, snake(n))
         if to != n:
             turn[n] = to
-    kept = (heads | inner) - set(turn)
     by = collections.defaultdict(list)
     for n, to in turn.items():
         by[to].append(n)

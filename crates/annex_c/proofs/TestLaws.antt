@@ -212,22 +212,22 @@ module _ (k : ℕ) (t : List ℕ) (list : List Code) where
   abbrev PriorRight : ℕ → Type 0
   PriorRight p = (pair155 (tree t p) ≡ escape_alone (codes_of list p)) × (agrees k (tree t p) (nodes t p) 0 (meant p (codes_of list p)) ≡ true)
 
-  prior-right : (p : ℕ) → prior_agrees k t list p ≡ true → PriorRight p
+  prior_right : (p : ℕ) → prior_agrees k t list p ≡ true → PriorRight p
   unfolding prior_agrees
-  prior-right p a = (from_equal _ _ (and_left _ _ a), and_right _ _ a)
+  prior_right p a = (from_equal _ _ (and_left _ _ a), and_right _ _ a)
 
-  priors-right : (n p : ℕ) → priors_agree k t list n ≡ true → p < n → PriorRight p
+  priors_right : (n p : ℕ) → priors_agree k t list n ≡ true → p < n → PriorRight p
   unfolding priors_agree
-  priors-right zero p a l = absurd (not-suc-le-zero l)
-  priors-right (suc n) p a l =
+  priors_right zero p a l = absurd (not-suc-le-zero l)
+  priors_right (suc n) p a l =
       ⊎_elim
-      (λ (q : p ≡ n). rw q (prior-right n (and_left _ _ a)))
-      (λ below. priors-right n p (and_right _ _ a) below)
+      (λ (q : p ≡ n). rw q (prior_right n (and_left _ _ a)))
+      (λ below. priors_right n p (and_right _ _ a) below)
       (eq-or-lt_of_le (le_of_suc-le-suc l))
 
   at : table_agrees k t list ≡ true → (p : ℕ) → p < 128 → PriorRight p
   unfolding table_agrees
-  at a p l = priors-right 128 p a l
+  at a p l = priors_right 128 p a l
 
   right : table_agrees k t list ≡ true → (p : ℕ) → p < 128 → (bs : List ℕ) → Bits bs → Right k (nodes t p) (tree t p) 0 (meant p (codes_of list p)) bs
   right a p l bs h = node_right k (nodes t p) (tree t p) 0 (meant p (codes_of list p)) bs (at a p l).1 h

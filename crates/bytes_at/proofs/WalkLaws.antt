@@ -81,13 +81,13 @@ skip_past back at n end x h e = rw (lt-leb (at + n) end h, e)
 
 -- ---- bitsTo and fieldsTo
 module _ (n : ℕ) (ns : List ℕ) (p end : ℕ) where
-  pub bits-past : (x : ℕ) → 8 * end < p + n → x ≡ p / 8 → Bad x ≡ bits_to (n ∷ ns) p end
+  pub bits_past : (x : ℕ) → 8 * end < p + n → x ≡ p / 8 → Bad x ≡ bits_to (n ∷ ns) p end
   unfolding bits_to
-  bits-past x h e = rw (lt-leb (p + n) (8 * end) h, e)
+  bits_past x h e = rw (lt-leb (p + n) (8 * end) h, e)
 
-  pub bits-on : {r : Walk} → p + n ≤ 8 * end → r ≡ bits_to ns (p + n) end → r ≡ bits_to (n ∷ ns) p end
+  pub bits_on : {r : Walk} → p + n ≤ 8 * end → r ≡ bits_to ns (p + n) end → r ≡ bits_to (n ∷ ns) p end
   unfolding bits_to
-  bits-on h e = rw (le-leb (p + n) (8 * end) h) e
+  bits_on h e = rw (le-leb (p + n) (8 * end) h) e
 
 pub bits_done : (p end x : ℕ) → x ≡ p / 8 → To x ≡ bits_to [] p end
 unfolding bits_to
@@ -106,25 +106,25 @@ ended end at e h =
 
 -- ---- many
 module _ (p : ℕ → Walk) where
-  pub many-go : (n at b : ℕ) → 0 < n → p at ≡ To b → many p (n - 1) b ≡ many p n at
+  pub many_go : (n at b : ℕ) → 0 < n → p at ≡ To b → many p (n - 1) b ≡ many p n at
   unfolding many then
-  many-go zero at b h e = absurd (omega arith)
-  many-go (suc n) at b h e = rw (e, sub-one) refl
+  many_go zero at b h e = absurd (omega arith)
+  many_go (suc n) at b h e = rw (e, sub-one) refl
 
-  pub many-bad : (n at x : ℕ) (w : Walk) → 0 < n → w ≡ p at → w ≡ Bad x → w ≡ many p n at
+  pub many_bad : (n at x : ℕ) (w : Walk) → 0 < n → w ≡ p at → w ≡ Bad x → w ≡ many p n at
   unfolding many then
-  many-bad zero at x w h e f = absurd (omega arith)
-  many-bad (suc n) at x w h e f = rw (← e, f) refl
+  many_bad zero at x w h e f = absurd (omega arith)
+  many_bad (suc n) at x w h e f = rw (← e, f) refl
 
-  pub many-none : (n at : ℕ) → n ≡ 0 → To at ≡ many p n at
+  pub many_none : (n at : ℕ) → n ≡ 0 → To at ≡ many p n at
   unfolding many
-  many-none n at e = rw e
+  many_none n at e = rw e
 
   -- the first, and the others
-  pub many-inv : (n at e : ℕ) → 0 < n → many p n at ≡ To e → (b : ℕ) × ((p at ≡ To b) × (many p (n - 1) b ≡ To e))
+  pub many_inv : (n at e : ℕ) → 0 < n → many p n at ≡ To e → (b : ℕ) × ((p at ≡ To b) × (many p (n - 1) b ≡ To e))
   unfolding many
-  many-inv zero at e h w = absurd (omega arith)
-  many-inv (suc n) at e h w = rw sub-one (then_inv (p at) (many p n) e w)
+  many_inv zero at e h w = absurd (omega arith)
+  many_inv (suc n) at e h w = rw sub-one (then_inv (p at) (many p n) e w)
 
   -- on the way past n the place of each is reached
   pub reached : (i n at e : ℕ) → i ≤ n → many p n at ≡ To e → Stands (many p i at)
@@ -151,9 +151,9 @@ module _ (p : ℕ → Walk) where
       stands_at i n r.0 a e (omega arith) (subst (λ (x : ℕ). many p n x ≡ To e) b q.1.1) r.1.1
 
   -- where each ends before a bound, so do they all
-  pub many-in : (most : ℕ) → ((at b : ℕ) → p at ≡ To b → b ≤ most) → (n at b : ℕ) → at ≤ most → many p n at ≡ To b → b ≤ most
+  pub many_in : (most : ℕ) → ((at b : ℕ) → p at ≡ To b → b ≤ most) → (n at b : ℕ) → at ≤ most → many p n at ≡ To b → b ≤ most
   unfolding many
-  many-in most h zero at b k w = let t = to_is at b w in omega arith
-  many-in most h (suc n) at b k w =
+  many_in most h zero at b k w = let t = to_is at b w in omega arith
+  many_in most h (suc n) at b k w =
       let q = then_inv (p at) (many p n) b w in
-      many-in most h n q.0 b (h at q.0 q.1.0) q.1.1
+      many_in most h n q.0 b (h at q.0 q.1.0) q.1.1

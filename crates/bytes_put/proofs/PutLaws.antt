@@ -14,8 +14,8 @@ use Rattle.format.specs.Laws.OfValues.{bytes_length}
 
 -- ---- two numbers, the second in the low bytes
 module _ (k b : ℕ) (h : b < 2 ^ (8 * k)) where
-  front-high : (j a : ℕ) → (a * 2 ^ (8 * k) + b) / 2 ^ (8 * (j + k)) ≡ a / 2 ^ (8 * j)
-  front-high j a =
+  front_high : (j a : ℕ) → (a * 2 ^ (8 * k) + b) / 2 ^ (8 * (j + k)) ≡ a / 2 ^ (8 * j)
+  front_high j a =
       let n = a * 2 ^ (8 * k) + b in
       let e : 8 * (j + k) ≡ 8 * k + 8 * j = omega arith in
       ap (λ m. n / 2 ^ m) e ∙ sym (shr-shr n (8 * k) (8 * j)) ∙ ap (λ m. m / 2 ^ (8 * j)) (high a (8 * k) h)
@@ -34,7 +34,7 @@ module _ (k b : ℕ) (h : b < 2 ^ (8 * k)) where
   unfolding bytes_of
   front j a l e =
       let t = ap (bytes_of (j + k)) (front_low j a) ∙ e in
-      ap (λ m. bytes_of m (a * 2 ^ (8 * k) + b)) (suc-add j k) ∙ (λ i. front-high j a i ∷ t i)
+      ap (λ m. bytes_of m (a * 2 ^ (8 * k) + b)) (suc-add j k) ∙ (λ i. front_high j a i ∷ t i)
 
 -- the bytes of the first, then those of the second
 pub bytes_join : (j k a b : ℕ) → 0 < j → b < 2 ^ (8 * k) → bytes_of (j + k) (a * 2 ^ (8 * k) + b) ≡ bytes_of j a ++ bytes_of k b

@@ -22,9 +22,9 @@ module _ (s : List ℕ) (end a b : ℕ) (w : walks channel s end a ≡ To b) whe
       let t = fields_end 112 (14 ∷ 10 ∷ 8 ∷ 32 ∷ 16 ∷ 16 ∷ 2 ∷ 1 ∷ 1 ∷ 6 ∷ 6 ∷ 16 ∷ []) 30 refl a end p.0 p.1.0 in
       (p.0, (t.0, list10_passed no_tag s end p.0 b p.1.1))
 
-  pub channel-forward : (a < b) × (b ≤ end)
-  channel-forward = let p = passed in (omega (arith, p.1.0, p.1.1.forward), p.1.1.inside)
+  pub channel_forward : (a < b) × (b ≤ end)
+  channel_forward = let p = passed in (omega (arith, p.1.0, p.1.1.forward), p.1.1.inside)
 
-  pub channel-ends : b ≡ channel_end s a
+  pub channel_ends : b ≡ channel_end s a
   unfolding channel_end
-  channel-ends = let p = passed in p.1.1.ends ∙ ap (list_end 1024 s) p.1.0
+  channel_ends = let p = passed in p.1.1.ends ∙ ap (list_end 1024 s) p.1.0

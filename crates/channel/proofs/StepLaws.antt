@@ -27,13 +27,13 @@ three_steps at end =
 
 -- what code answers: where the first step fails, where the second does, and what the third comes to
 module _ (at end : ℕ) {w : Walk} (e : w ≡ fields_to (112 ∷ 14 ∷ 10 ∷ 8 ∷ []) at end) where
-  pub first-fails : {x : ℕ} → w ≡ Bad x → w ≡ fields_to all at end
-  first-fails f = seq_bad _ e f ∙ sym (three_steps at end)
+  pub first_fails : {x : ℕ} → w ≡ Bad x → w ≡ fields_to all at end
+  first_fails f = seq_bad _ e f ∙ sym (three_steps at end)
 
   module _ (b : ℕ) (f : w ≡ To b) {v : Walk} (g : v ≡ fields_to (32 ∷ 16 ∷ 16 ∷ 0 ∷ []) b end) where
-    pub second-fails : {x : ℕ} → v ≡ Bad x → v ≡ fields_to all at end
-    second-fails h = seq_to _ e f (seq_bad _ (g ∙ pad 32 (16 ∷ 16 ∷ []) 1 b end) h) ∙ sym (three_steps at end)
+    pub second_fails : {x : ℕ} → v ≡ Bad x → v ≡ fields_to all at end
+    second_fails h = seq_to _ e f (seq_bad _ (g ∙ pad 32 (16 ∷ 16 ∷ []) 1 b end) h) ∙ sym (three_steps at end)
 
-    pub third-is : (d : ℕ) → v ≡ To d → {u : Walk} → u ≡ fields_to (10 ∷ 6 ∷ 16 ∷ 0 ∷ []) d end → u ≡ fields_to all at end
-    third-is d h k =
+    pub third_is : (d : ℕ) → v ≡ To d → {u : Walk} → u ≡ fields_to (10 ∷ 6 ∷ 16 ∷ 0 ∷ []) d end → u ≡ fields_to all at end
+    third_is d h k =
         seq_to _ e f (seq_to _ (g ∙ pad 32 (16 ∷ 16 ∷ []) 1 b end) h (k ∙ pad 10 (6 ∷ 16 ∷ []) 1 d end)) ∙ sym (three_steps at end)

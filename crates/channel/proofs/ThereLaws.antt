@@ -10,56 +10,56 @@ use Rattle.format.specs.Laws.OfBytes.{lies_at, lies_split}
 use Rattle.format.specs.Laws.OfValues.{bytes_length}
 use Rattle.format.specs.Values.{number, bytes_of, behind}
 use Rattle.format.specs.Heads.{vals_at}
-use Rattle.format.specs.Laws.OfNamed.{vals-there}
+use Rattle.format.specs.Laws.OfNamed.{vals_there}
 use Rattle.format.specs.Told.{sized10}
 use Rattle.descriptor.specs.Descriptors.{descriptors, no_tag}
 use Rattle.descriptor.specs.Places.{list_at}
-use Rattle.descriptor.proofs.ListLaws.{list10-there}
+use Rattle.descriptor.proofs.ListLaws.{list10_there}
 use Rattle.row.specs.Rows.{part_row}
 use Rattle.channel.specs.Format.{channel_head, head_of, name_in, tuning_in, service_in, ChannelFields, channel_format}
 use Rattle.channel.specs.Walked.{channel}
 use Rattle.channel.specs.Fields.{name_at, tuning_at, service_at, descriptors_at, channel_end, channel_at, numbers_row, channel_row}
 use Rattle.channel.specs.Values.{descriptors_place, channel_for, row_for}
-use Rattle.channel.proofs.ChannelLaws.{channel-ends}
+use Rattle.channel.proofs.ChannelLaws.{channel_ends}
 
 module _ (s : List ℕ) (z : Bytes s) (a : ℕ) (x : ChannelFields) (o : channel_format.Ok (record {}) x) (l : Lies (channel_format.enc x) s a) where
   -- its head, and what stands behind it
-  head-and-rest : Lies (bytes_of 30 (number channel_head (head_of x))) s a
+  head_and_rest : Lies (bytes_of 30 (number channel_head (head_of x))) s a
       × Lies ((sized10 (descriptors no_tag)).enc ((x.r2, record {}), x.descs)) s (behind channel_head a)
-  head-and-rest =
+  head_and_rest =
       let p = lies_split (bytes_of 30 (number channel_head (head_of x))) _ s a l in
       (p.0, lies_at _ s _ _ (ap (a +◌) (bytes_length 30 _)) p.1)
 
-  head-there : vals_at channel_head s a 0 ≡ head_of x
-  head-there = vals-there channel_head 30 refl s a (head_of x) o.0 head-and-rest.0
+  head_there : vals_at channel_head s a 0 ≡ head_of x
+  head_there = vals_there channel_head 30 refl s a (head_of x) o.0 head_and_rest.0
 
   -- its descriptors, with their length before them
-  descriptors-placed : (list_at 1024 s (behind channel_head a) ≡ descriptors_place a x)
+  descriptors_placed : (list_at 1024 s (behind channel_head a) ≡ descriptors_place a x)
       × Lies ((descriptors no_tag).enc x.descs) s (descriptors_place a x).start
-  descriptors-placed = list10-there no_tag s (behind channel_head a) z x.r2 x.descs o.1 head-and-rest.1
+  descriptors_placed = list10_there no_tag s (behind channel_head a) z x.r2 x.descs o.1 head_and_rest.1
 
-  pub descriptors-lie : Lies ((descriptors no_tag).enc x.descs) s (descriptors_place a x).start
-  descriptors-lie = descriptors-placed.1
+  pub descriptors_lie : Lies ((descriptors no_tag).enc x.descs) s (descriptors_place a x).start
+  descriptors_lie = descriptors_placed.1
 
-  descriptors-there : descriptors_at s a ≡ descriptors_place a x
+  descriptors_there : descriptors_at s a ≡ descriptors_place a x
   unfolding descriptors_at
-  descriptors-there = descriptors-placed.0
+  descriptors_there = descriptors_placed.0
 
-  pub channel-there : channel_at s a ≡ channel_for a x
+  pub channel_there : channel_at s a ≡ channel_for a x
   unfolding channel_at name_at tuning_at service_at
-  channel-there =
+  channel_there =
       λ i. record {
-        name = name_in (head-there i);
-        tuning = tuning_in (head-there i);
-        service = service_in (head-there i);
-        descriptors = descriptors-there i;
+        name = name_in (head_there i);
+        tuning = tuning_in (head_there i);
+        service = service_in (head_there i);
+        descriptors = descriptors_there i;
       }
 
-  pub row-there : channel_row s a ≡ row_for a x
+  pub row_there : channel_row s a ≡ row_for a x
   unfolding channel_row
-  row-there = λ i. numbers_row (channel-there i) ++ part_row (descriptors-there i)
+  row_there = λ i. numbers_row (channel_there i) ++ part_row (descriptors_there i)
 
-  pub end-there : channel_end s a ≡ a + length (channel_format.enc x)
+  pub end_there : channel_end s a ≡ a + length (channel_format.enc x)
   unfolding channel
-  end-there =
-      sym (channel-ends s (a + length (channel_format.enc x)) a _ ((channel_format.law (record {})).sound s _ a x o l (omega arith)))
+  end_there =
+      sym (channel_ends s (a + length (channel_format.enc x)) a _ ((channel_format.law (record {})).sound s _ a x o l (omega arith)))

@@ -139,18 +139,18 @@ abbrev Turned : ℕ → ℕ → ℕ → Type 0
 Turned e g x = StandsFor (zeros e x) (turns 8 g (x * 2 ^ 56))
 
 module _ (e g : ℕ) (constant : zeros e 1 ≡ g) (less : g < 2 ^ 32) where
-  bit-zeros : (k : ℕ) → k < 8 → zeros k g ≡ zeros e (2 ^ k)
-  bit-zeros k h =
+  bit_zeros : (k : ℕ) → k < 8 → zeros k g ≡ zeros e (2 ^ k)
+  bit_zeros k h =
       ap (zeros k) (sym constant) ∙ zeros_zeros k e 1 ∙ ap (λ (n : ℕ). zeros n 1) (add_comm e k) ∙ sym (zeros_zeros e k 1)
       ∙ ap (zeros e) (zeros_low k 1 (omega (arith, pow-lt {i = k} {j = 32} (omega arith))) ∙ one-mul (2 ^ k))
 
   turned_bit : (k : ℕ) → k < 8 → Turned e g (2 ^ k)
   turned_bit k h =
-      subst (λ (u : ℕ). StandsFor u (turns 8 g (2 ^ k * 2 ^ 56))) (bit-zeros k h)
+      subst (λ (u : ℕ). StandsFor u (turns 8 g (2 ^ k * 2 ^ 56))) (bit_zeros k h)
       (subst (StandsFor (zeros k g)) (sym (bit_turns g k (7 - k) less (omega arith))) (ahead k g less (omega (arith, shifted_lt g k less h))))
 
-  turned-both : (a b : ℕ) → Turned e g a → Turned e g b → Turned e g (bit_xor a b)
-  turned-both a b p q =
+  turned_both : (a b : ℕ) → Turned e g a → Turned e g b → Turned e g (bit_xor a b)
+  turned_both a b p q =
       let shifted : bit_xor (a * 2 ^ 56) (b * 2 ^ 56) ≡ bit_xor a b * 2 ^ 56 = simp add-zero at (xor_block 56 a b 0 0 (pow_pos 56) (pow_pos 56)) in
       subst (StandsFor (zeros e (bit_xor a b))) (sym (turns_xor 8 g (a * 2 ^ 56) (b * 2 ^ 56)) ∙ ap (turns 8 g) shifted)
       (subst (λ (u : ℕ). StandsFor u (bit_xor (turns 8 g (a * 2 ^ 56)) (turns 8 g (b * 2 ^ 56)))) (sym (zeros_xor e a b))
@@ -161,11 +161,11 @@ module _ (e g : ℕ) (constant : zeros e 1 ≡ g) (less : g < 2 ^ 32) where
       subst (λ (u : ℕ). StandsFor u (turns 8 g 0)) (sym (zeros_of_zero e))
       (subst (StandsFor 0) (sym (turns_low 8 g 0 (omega arith))) (subst (λ (u : ℕ). StandsFor u 0) (zeros_of_zero 0) (ahead 0 0 (omega arith) (omega arith))))
 
-  turned-below : (n x : ℕ) → n ≤ 8 → x < 2 ^ n → Turned e g x
-  turned-below zero x hn h =
+  turned_below : (n x : ℕ) → n ≤ 8 → x < 2 ^ n → Turned e g x
+  turned_below zero x hn h =
       let none : 0 ≡ x = omega arith in
       subst (Turned e g) none turned_none
-  turned-below (suc n) x hn h =
+  turned_below (suc n) x hn h =
       let t = x / 2 ^ n in
       let lo = x % 2 ^ n in
       let below : lo < 2 ^ n = mod-lt x (pow_pos n) in
@@ -174,7 +174,7 @@ module _ (e g : ℕ) (constant : zeros e 1 ≡ g) (less : g < 2 ^ 32) where
       let top : Turned e g (t * 2 ^ n) =
       bit_cases (λ (b : ℕ). Turned e g (b * 2 ^ n)) (subst (Turned e g) (sym (zero-mul (2 ^ n))) turned_none)
       (subst (Turned e g) (sym (one-mul (2 ^ n))) (turned_bit n (omega arith))) t bit in
-      subst (Turned e g) whole (turned-both (t * 2 ^ n) lo top (turned-below n lo (omega arith) below))
+      subst (Turned e g) whole (turned_both (t * 2 ^ n) lo top (turned_below n lo (omega arith) below))
 
   -- the loop, done
   pub turned : (y q i : ℕ) → 8 ≤ i → Left g y q i → StandsFor (zeros e (y % 256)) q
@@ -183,4 +183,4 @@ module _ (e g : ℕ) (constant : zeros e 1 ≡ g) (less : g < 2 ^ 32) where
       let byte : y % 256 * 2 ^ 56 ≡ y * 2 ^ 56 % 2 ^ 64 = omega arith in
       let over : 0 ≡ 8 - i = omega arith in
       subst (StandsFor (zeros e (y % 256))) (ap (turns 8 g) byte ∙ sym (ap (λ (n : ℕ). turns n g q) over ∙ l.1))
-      (turned-below 8 (y % 256) (omega arith) (omega arith))
+      (turned_below 8 (y % 256) (omega arith) (omega arith))

@@ -19,14 +19,14 @@ module _ (B : Build) (g : Agrees B) where
   after_is x [] = refl
   after_is x (t ∷ ts) = after_is (B.turn x t).next ts ∙ ap (λ (y : State). state_after ours y ts) (g.next_is x t)
 
-  recorded-is : (x : B.Memory) (ts : List Turn) → recorded B x ts ≡ recorded ours (B.means x) ts
+  recorded_is : (x : B.Memory) (ts : List Turn) → recorded B x ts ≡ recorded ours (B.means x) ts
   unfolding recorded
-  recorded-is x [] = refl
-  recorded-is x (t ∷ ts) = ap₂ (λ (a : Answer) (es : List Exchange). record { call = t.call; answer = a } ∷ es) (g.answer_is x t)
-      (recorded-is (B.turn x t).next ts ∙ ap (λ (y : State). recorded ours y ts) (g.next_is x t))
+  recorded_is x [] = refl
+  recorded_is x (t ∷ ts) = ap₂ (λ (a : Answer) (es : List Exchange). record { call = t.call; answer = a } ∷ es) (g.answer_is x t)
+      (recorded_is (B.turn x t).next ts ∙ ap (λ (y : State). recorded ours y ts) (g.next_is x t))
 
-  empty-is : (x : B.Memory) → StartsEmpty B x → StartsEmpty ours (B.means x)
-  empty-is x e = record { places = e.places; records = e.records; made_so = e.made_so; shelf_is = e.shelf_is; area_is = e.area_is }
+  empty_is : (x : B.Memory) → StartsEmpty B x → StartsEmpty ours (B.means x)
+  empty_is x e = record { places = e.places; records = e.records; made_so = e.made_so; shelf_is = e.shelf_is; area_is = e.area_is }
 
   told_is : (x : B.Memory) (k : Asked) (hs : Option (List Heard)) → ToldBy ours (B.means x) k hs → ToldBy B x k hs
   told_is x k hs t = record { says = g.answer_is x (status k) ∙ t.says; gives = λ m. g.answer_is x (fetch k m) ∙ t.gives m }
@@ -36,26 +36,26 @@ module _ (B : Build) (g : Agrees B) where
       → ToldBy ours (state_after ours (B.means x) ts) k (history k hs (recorded ours (B.means x) ts)) → ToldBy B (state_after B x ts) k (history k hs (recorded B x ts))
   told_after x k ts hs t = told_is (state_after B x ts) k (history k hs (recorded B x ts))
       (subst (λ (y : State). ToldBy ours y k (history k hs (recorded B x ts))) (sym (after_is x ts))
-      (subst (λ (es : List Exchange). ToldBy ours (state_after ours (B.means x) ts) k (history k hs es)) (sym (recorded-is x ts)) t))
+      (subst (λ (es : List Exchange). ToldBy ours (state_after ours (B.means x) ts) k (history k hs es)) (sym (recorded_is x ts)) t))
 
   module _ {k : Asked} (table : WholeTable k) where
-    allowed-is : (x : B.Memory) (t : Turn) → Allowed B table x t → Allowed ours table (B.means x) t
-    allowed-is x t a = record {
+    allowed_is : (x : B.Memory) (t : Turn) → Allowed B table x t → Allowed ours table (B.means x) t
+    allowed_is x t a = record {
       stays_open = λ c e q. sym (ap accepted (g.answer_is x t)) ∙ a.stays_open c e q;
       no_other = λ d e q y. a.no_other d e q (ap accepted (g.answer_is x t) ∙ y);
     }
 
-    stretch-is : (x : B.Memory) (ts : List Turn) → Stretch B table x ts → Stretch ours table (B.means x) ts
-    stretch-is x [] end = end
-    stretch-is x (t ∷ ts) (goes_on a st) = goes_on (allowed-is x t a) (subst (λ (y : State). Stretch ours table y ts) (g.next_is x t) (stretch-is (B.turn x t).next ts st))
+    stretch_is : (x : B.Memory) (ts : List Turn) → Stretch B table x ts → Stretch ours table (B.means x) ts
+    stretch_is x [] end = end
+    stretch_is x (t ∷ ts) (goes_on a st) = goes_on (allowed_is x t a) (subst (λ (y : State). Stretch ours table y ts) (g.next_is x t) (stretch_is (B.turn x t).next ts st))
 
     none_is : (x : B.Memory) (ts : List Turn) → NoneRefused ours table (B.means x) ts → NoneRefused B table x ts
     none_is x [] none_left = none_left
     none_is x (t ∷ ts) (and_then f r) =
         and_then (λ m l e. g.answer_is x t ∙ f m l e) (none_is (B.turn x t).next ts (subst (λ (y : State). NoneRefused ours table y ts) (sym (g.next_is x t)) r))
 
-    complete-is : (x : B.Memory) → Complete ours table (B.means x) → Complete B table x
-    complete-is x c = record {
+    complete_is : (x : B.Memory) → Complete ours table (B.means x) → Complete B table x
+    complete_is x c = record {
       says = g.answer_is x (status k) ∙ c.says;
       holds = λ m l. g.answer_is x (fetch k m) ∙ c.holds m l;
       no_other = λ m l. g.answer_is x (fetch k m) ∙ c.no_other m l;
@@ -64,14 +64,14 @@ module _ (B : Build) (g : Agrees B) where
 pub agreeing_collect : AgreeingCollect
 agreeing_collect B g = record {
   first_half = λ x k v table ts ok is room own st made.
-      let f = first_half (B.means x) k v table ts ok is room own (stretch-is B g table x ts st) made in
-      (none_is B g table x ts f.0, complete-is B g table (state_after B x ts) (subst (Complete ours table) (sym (after_is B g x ts)) f.1));
+      let f = first_half (B.means x) k v table ts ok is room own (stretch_is B g table x ts st) made in
+      (none_is B g table x ts f.0, complete_is B g table (state_after B x ts) (subst (Complete ours table) (sym (after_is B g x ts)) f.1));
   second_half = λ x k ts ok silent own. told_after B g x k ts _ (second_half (B.means x) k ts ok silent own);
-  from_empty = λ x k ts e own. told_after B g x k ts _ (from_empty (B.means x) k ts (empty-is B g x e) own);
+  from_empty = λ x k ts e own. told_after B g x k ts _ (from_empty (B.means x) k ts (empty_is B g x e) own);
   places_promised = λ x ts e.
-      ap₂ (λ (y : State) (es : List Exchange). promised y.shelf + quotas_closed (λ k. 0) es) (after_is B g x ts) (recorded-is B g x ts)
-      ∙ places_promised (B.means x) ts (empty-is B g x e)
-      ∙ ap quotas_opened (sym (recorded-is B g x ts));
+      ap₂ (λ (y : State) (es : List Exchange). promised y.shelf + quotas_closed (λ k. 0) es) (after_is B g x ts) (recorded_is B g x ts)
+      ∙ places_promised (B.means x) ts (empty_is B g x e)
+      ∙ ap quotas_opened (sym (recorded_is B g x ts));
 }
 
 pub lent_holds : LentHolds

@@ -11,7 +11,7 @@ use lib.ListN.{length}
 use borrow.Author.Tests.{eq-eqb, eqb-true, le-leb, ne_eqb}
 use Rattle.logic.specs.Choices.{pick}
 use Rattle.logic.specs.Loops.{◌&◌, count}
-use Rattle.logic.proofs.LoopLaws.{all-i, and_i, and_left, and_right, both, true_false}
+use Rattle.logic.proofs.LoopLaws.{all_i, and_i, and_left, and_right, both, true_false}
 use Rattle.refusal.specs.Outcomes.{Outcome, refused, resulted, or_refuse}
 use Rattle.section.specs.declared.header.Header.{Header}
 use Rattle.shelf_state.specs.Records.{same_key}
@@ -26,8 +26,8 @@ use Rattle.shelf.specs.Steps.{State, Turn, accepted, did, gave, is_result, lent_
 use Rattle.shelf_laws.specs.Laws.{Obeys, OneStep}
 use Rattle.shelf_laws.proofs.OpenLaws.{opening_passed}
 use Rattle.shelf_laws.proofs.StepLaws.{step_law}
-use Rattle.shelf_laws.proofs.ViewLaws.{none_above, pid-small, same_some, viewed}
-use Rattle.collecting.proofs.TurnLaws.{count_says, own_next, says-bytes, says_delivered, says-status}
+use Rattle.shelf_laws.proofs.ViewLaws.{none_above, pid_small, same_some, viewed}
+use Rattle.collecting.proofs.TurnLaws.{count_says, own_next, says_bytes, says_delivered, says_status}
 use Rattle.collecting.specs.Collecting.{Allowed, Complete, FirstHalf, Made, NoneRefused, OneOf, Own, Stretch, WholeTable, state_after, and_then, deliver, end, fetch, here, none_left, one_more, goes_on, there, ours}
 
 -- ---- an open watch's key is not opened again
@@ -51,7 +51,7 @@ module _ (k : Asked) (table : WholeTable k) where
 
   -- section m is kept, in the table's edition
   record Got (m : ℕ) (v : View) : Type 0 where
-    in-edition : v.edition ≡ edition
+    in_edition : v.edition ≡ edition
     bytes_are : v.kept m ≡ some (record { bytes = table.bytes m })
 
   -- the table's section n is heard: n is got, and what was got stays so
@@ -59,23 +59,23 @@ module _ (k : Asked) (table : WholeTable k) where
     abbrev heard : View
     heard = hears v (head n l) (table.bytes n)
 
-    same-room : heard.quota ≡ v.quota
+    same_room : heard.quota ≡ v.quota
     unfolding hears
-    same-room = refl
+    same_room = refl
 
-    now-got : Got n heard
+    now_got : Got n heard
     unfolding hears put
-    now-got = record { in-edition = edition_is n l; bytes_are = rw (eq-eqb n (head n l).number (sym (table.sections n l).number_is)) }
+    now_got = record { in_edition = edition_is n l; bytes_are = rw (eq-eqb n (head n l).number (sym (table.sections n l).number_is)) }
 
-    same-edition : v.edition ≡ edition → same_edition v.edition (head n l) ≡ true
+    same_edition_lem : v.edition ≡ edition → same_edition v.edition (head n l) ≡ true
     unfolding same_edition
-    same-edition e = rw e (and_i true _ refl (and_i _ _ (eq-eqb _ _ (sym (table.sections n l).version_is)) (eq-eqb _ _ (sym (table.sections n l).last_is))))
+    same_edition_lem e = rw e (and_i true _ refl (and_i _ _ (eq-eqb _ _ (sym (table.sections n l).version_is)) (eq-eqb _ _ (sym (table.sections n l).last_is))))
 
-    still-got : (m : ℕ) → Got m v → Got m heard
+    still_got : (m : ℕ) → Got m v → Got m heard
     unfolding hears put
-    still-got m g = ⊎_elim
-        (λ e. subst (λ (j : ℕ). Got j heard) (sym (eqb-true m (head n l).number e ∙ (table.sections n l).number_is)) now-got)
-        (λ (e : eqb m (head n l).number ≡ false). record { in-edition = edition_is n l; bytes_are = rw (e, same-edition g.in-edition) g.bytes_are })
+    still_got m g = ⊎_elim
+        (λ e. subst (λ (j : ℕ). Got j heard) (sym (eqb-true m (head n l).number e ∙ (table.sections n l).number_is)) now_got)
+        (λ (e : eqb m (head n l).number ≡ false). record { in_edition = edition_is n l; bytes_are = rw (e, same_edition_lem g.in_edition) g.bytes_are })
         (both (eqb m (head n l).number))
 
   -- ---- one turn
@@ -84,33 +84,33 @@ module _ (k : Asked) (table : WholeTable k) where
       abbrev y : Bool
       y = accepted (step x t).answer
 
-      view-next : view_in (step x t).next k ≡ next_view k t.call y (some v)
-      view-next = (step_law x t ok).views lent k ∙ ap (next_view k t.call y) is
+      view_next : view_in (step x t).next k ≡ next_view k t.call y (some v)
+      view_next = (step_law x t ok).views lent k ∙ ap (next_view k t.call y) is
 
       -- the watch is still open, with its quota, and what was got stays so
       pub record Stays : Type 0 where
         pub view : View
         pub is_view : view_in (step x t).next k ≡ some view
-        pub same-quota : view.quota ≡ v.quota
+        pub same_quota : view.quota ≡ v.quota
         still : (m : ℕ) → Got m v → Got m view
 
       unmoved : view_in (step x t).next k ≡ some v → Stays
-      unmoved e = record { view = v; is_view = e; same-quota = refl; still = λ m g. g }
+      unmoved e = record { view = v; is_view = e; same_quota = refl; still = λ m g. g }
 
-      hears-one : (n : ℕ) (l : n ≤ table.last) → view_in (step x t).next k ≡ some (heard v n l) → Stays
-      hears-one n l e = record { view = heard v n l; is_view = e; same-quota = same-room v n l; still = still-got v n l }
+      hears_one : (n : ℕ) (l : n ≤ table.last) → view_in (step x t).next k ≡ some (heard v n l) → Stays
+      hears_one n l e = record { view = heard v n l; is_view = e; same_quota = same_room v n l; still = still_got v n l }
 
       -- a call about one key: another key's view stays
-      of-key : (a : Asked) (w : Option View) → view_in (step x t).next k ≡ pick (y & same_key k a) w (some v)
+      of_key : (a : Asked) (w : Option View) → view_in (step x t).next k ≡ pick (y & same_key k a) w (some v)
           → (a ≡ k → y ≡ true → view_in (step x t).next k ≡ w → Stays) → Stays
-      of-key a w e f = ⊎_elim
+      of_key a w e f = ⊎_elim
           (λ b. f (sym (key_is k a (and_right y (same_key k a) b))) (and_left y (same_key k a) b) (e ∙ ap (λ (c : Bool). pick c w (some v)) b))
           (λ b. unmoved (e ∙ ap (λ (c : Bool). pick c w (some v)) b))
           (both (y & same_key k a))
 
-      opens-no-more : (o : Opening) → t.call ≡ opens o → o.key ≡ k → y ≡ false
+      opens_no_more : (o : Opening) → t.call ≡ opens o → o.key ≡ k → y ≡ false
       unfolding step step_on
-      opens-no-more o e q =
+      opens_no_more o e q =
           ap (λ (c : Call). accepted (step_on x t.lent (lent_to x t.lent) c).answer) e
           ∙ open_refused x.shelf (length (lent_to x t.lent)) o.key o.quota (rw q (viewed x.shelf x.area k v is))
 
@@ -119,16 +119,16 @@ module _ (k : Asked) (table : WholeTable k) where
       turned al = go t.call refl
         where
           next_is : (c : Call) → t.call ≡ c → view_in (step x t).next k ≡ next_view k c y (some v)
-          next_is c e = view-next ∙ ap (λ (d : Call). next_view k d y (some v)) e
+          next_is c e = view_next ∙ ap (λ (d : Call). next_view k d y (some v)) e
 
           go : (c : Call) → t.call ≡ c → Stays
-          go (opens o) e = of-key o.key (some (fresh_view o.quota)) (next_is (opens o) e) (λ q a _. true_false y a (opens-no-more o e q))
-          go (closes c) e = of-key c.key none (next_is (closes c) e) (λ q a _. true_false y a (al.stays_open c e q))
+          go (opens o) e = of_key o.key (some (fresh_view o.quota)) (next_is (opens o) e) (λ q a _. true_false y a (opens_no_more o e q))
+          go (closes c) e = of_key c.key none (next_is (closes c) e) (λ q a _. true_false y a (al.stays_open c e q))
           go (asks q) e = unmoved (next_is (asks q) e)
           go (fetches f) e = unmoved (next_is (fetches f) e)
-          go (delivers d) e = of-key (key_in d.pid d.bytes) (hears_in (some v) d.bytes (judged d.bytes)) (next_is (delivers d) e) (λ q a w.
+          go (delivers d) e = of_key (key_in d.pid d.bytes) (hears_in (some v) d.bytes (judged d.bytes)) (next_is (delivers d) e) (λ q a w.
               let o : OneOf table d.bytes = al.no_other d e q a in
-              hears-one o.number o.upto
+              hears_one o.number o.upto
               (w ∙ ap (λ (b : List ℕ). hears_in (some v) b (judged b)) o.bytes_are
               ∙ ap (hears_in (some v) (table.bytes o.number)) (table.sections o.number o.upto).sound))
 
@@ -139,7 +139,7 @@ module _ (k : Asked) (table : WholeTable k) where
 
       current : current_on k.pid (table.bytes m) ≡ resulted (head m l)
       unfolding current_on or_refuse
-      current = rw (le-leb k.pid 8191 (pid-small x k v ok is), (table.sections m l).sound, ne_eqb (head m l).current 0 (table.sections m l).current)
+      current = rw (le-leb k.pid 8191 (pid_small x k v ok is), (table.sections m l).sound, ne_eqb (head m l).current 0 (table.sections m l).current)
 
       accepts : (step x turn).answer ≡ did (resulted tt)
       unfolding delivery_says or_refuse
@@ -147,17 +147,17 @@ module _ (k : Asked) (table : WholeTable k) where
           says_delivered x k.pid (table.bytes m) ok
           ∙ rw ((table.sections m l).key, current, is, le-leb ((head m l).last + 1) v.quota (omega (arith, room, (table.sections m l).last_is)))
 
-      is-heard : view_in (step x turn).next k ≡ some (heard v m l)
+      is_heard : view_in (step x turn).next k ≡ some (heard v m l)
       unfolding next_view
-      is-heard =
+      is_heard =
           let w : Option View = hears_in (some v) (table.bytes m) (judged (table.bytes m)) in
-          view-next turn refl
+          view_next turn refl
           ∙ ap (λ (b : Bool). pick b w (some v)) (and_i _ _ (ap accepted accepts) (ap (same_key k) (table.sections m l).key ∙ key_self k))
           ∙ ap (hears_in (some v) (table.bytes m)) (table.sections m l).sound
 
       -- so number m is got in the view after it
-      gets-it : (t : Turn) (w : View) → view_in (step x t).next k ≡ some w → t ≡ turn → Got m w
-      gets-it t w f e = subst (Got m) (same_some (heard v m l) w (sym is-heard ∙ ap (λ (u : Turn). view_in (step x u).next k) (sym e) ∙ f)) (now-got v m l)
+      gets_it : (t : Turn) (w : View) → view_in (step x t).next k ≡ some w → t ≡ turn → Got m w
+      gets_it t w f e = subst (Got m) (same_some (heard v m l) w (sym is_heard ∙ ap (λ (u : Turn). view_in (step x u).next k) (sym e) ∙ f)) (now_got v m l)
 
   -- ---- a stretch
   abbrev Split : Turn → List Turn → Type 0
@@ -171,58 +171,58 @@ module _ (k : Asked) (table : WholeTable k) where
   record Ends (v : View) (x : State) (ts : List Turn) : Type 0 where
     finally : View
     keeps : Obeys (state_after ours x ts)
-    view-is : view_in (state_after ours x ts) k ≡ some finally
+    view_is : view_in (state_after ours x ts) k ≡ some finally
     gets : (m : ℕ) → m ≤ table.last → Made (deliver k.pid (table.bytes m)) ts ⊎ Got m v → Got m finally
-    none-refused : NoneRefused ours table x ts
+    none_refused : NoneRefused ours table x ts
 
   ends : (x : State) (v : View) (ts : List Turn) → Obeys x → view_in x k ≡ some v → table.last + 1 ≤ v.quota → Own (length x.area) ts → Stretch ours table x ts → Ends v x ts
   unfolding state_after
   ends x v [] ok is room own end = record {
     finally = v;
     keeps = ok;
-    view-is = is;
+    view_is = is;
     gets = λ m l o. ⊎_elim (λ p. absurd (split (deliver k.pid (table.bytes m)) [] p)) (λ g. g) o;
-    none-refused = none_left;
+    none_refused = none_left;
   }
   ends x v (t ∷ ts) ok is room (one_more lent own) (goes_on al st) =
       let s : OneStep x t = step_law x t ok in
       let o = turned x v ok is t lent al in
-      let r = ends (step x t).next o.view ts s.keeps o.is_view (omega (arith, room, o.same-quota)) (own_next s own) st in
+      let r = ends (step x t).next o.view ts s.keeps o.is_view (omega (arith, room, o.same_quota)) (own_next s own) st in
       record {
         finally = r.finally;
         keeps = r.keeps;
-        view-is = r.view-is;
+        view_is = r.view_is;
         gets = λ m l q. r.gets m l (⊎_elim
-            (λ p. ⊎_elim (λ e. inr (gets-it x v ok is room m l t o.view o.is_view e)) inl (split _ _ p))
+            (λ p. ⊎_elim (λ e. inr (gets_it x v ok is room m l t o.view o.is_view e)) inl (split _ _ p))
             (λ g. inr (o.still m g)) q);
-        none-refused = and_then (λ m l e. ap (λ (u : Turn). (step x u).answer) e ∙ accepts x v ok is room m l) r.none-refused;
+        none_refused = and_then (λ m l e. ap (λ (u : Turn). (step x u).answer) e ∙ accepts x v ok is room m l) r.none_refused;
       }
 
   -- ---- all numbers got: complete, and the bytes are the table's
   module _ (x : State) (v : View) (ok : Obeys x) (is : view_in x k ≡ some v) (got : (m : ℕ) → m ≤ table.last → Got m v) where
-    in-edition : v.edition ≡ edition
-    in-edition = (got 0 (omega arith)).in-edition
+    in_edition : v.edition ≡ edition
+    in_edition = (got 0 (omega arith)).in_edition
 
-    status-is : status_says (some v) ≡ resulted (complete (table.last + 1))
+    status_is : status_says (some v) ≡ resulted (complete (table.last + 1))
     unfolding status_of
-    status-is =
+    status_is =
         let n : ℕ = table.last + 1 in
         let p : ℕ → Bool = λ m. is_some (v.kept m) in
-        ap (λ (e : Edition). resulted (status_of e (count (e.last + 1) p))) in-edition
+        ap (λ (e : Edition). resulted (status_of e (count (e.last + 1) p))) in_edition
         ∙ ap resulted (count_says n p)
-        ∙ ap (λ (b : Bool). resulted (pick b (complete n) (held (count n p) n))) (all-i p n (λ m l. ap is_some (got m (omega arith)).bytes_are))
+        ∙ ap (λ (b : Bool). resulted (pick b (complete n) (held (count n p) n))) (all_i p n (λ m l. ap is_some (got m (omega arith)).bytes_are))
 
     gives : (m : ℕ) (o : Option Kept) → v.kept m ≡ o → (step x (fetch k m)).answer ≡ gave (bytes_or22 o)
-    gives m o e = says-bytes x k ok m ∙ ap (λ (w : Option View). gave (fetching_says w m)) is ∙ ap (λ (z : Option Kept). gave (bytes_or22 z)) e
+    gives m o e = says_bytes x k ok m ∙ ap (λ (w : Option View). gave (fetching_says w m)) is ∙ ap (λ (z : Option Kept). gave (bytes_or22 z)) e
 
     completes : Complete ours table x
     completes = record {
-      says = says-status x k ok ∙ ap (λ (w : Option View). reported (status_says w)) is ∙ ap reported status-is;
+      says = says_status x k ok ∙ ap (λ (w : Option View). reported (status_says w)) is ∙ ap reported status_is;
       holds = λ m l. gives m (some (record { bytes = table.bytes m })) (got m l).bytes_are;
-      no_other = λ m l. gives m none (none_above x k v ok is m (subst (λ (e : Edition). e.last < m) (sym in-edition) l));
+      no_other = λ m l. gives m none (none_above x k v ok is m (subst (λ (e : Edition). e.last < m) (sym in_edition) l));
     }
 
 pub first_half : FirstHalf ours
 first_half x k v table ts ok is room own st made =
     let e = ends k table x v ts ok is (omega (arith, room)) own st in
-    (e.none-refused, completes k table (state_after ours x ts) e.finally e.keeps e.view-is (λ m l. e.gets m l (inl (made m l))))
+    (e.none_refused, completes k table (state_after ours x ts) e.finally e.keeps e.view_is (λ m l. e.gets m l (inl (made m l))))

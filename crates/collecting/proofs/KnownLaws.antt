@@ -20,7 +20,7 @@ use Rattle.shelf_laws.specs.Laws.{Obeys, OneStep, refused_as}
 use Rattle.shelf_laws.proofs.StepLaws.{step_law}
 use Rattle.shelf_laws.proofs.ViewLaws.{viewed}
 use Rattle.collecting.proofs.StretchLaws.{lent_other}
-use Rattle.collecting.proofs.TurnLaws.{says-bytes, says_delivered, says-status}
+use Rattle.collecting.proofs.TurnLaws.{says_bytes, says_delivered, says_status}
 use Rattle.collecting.specs.Collecting.{TableSection, deliver, fetch, recorded, status, ours}
 use Rattle.collecting.specs.Samples.{answers_in, opening}
 
@@ -67,29 +67,29 @@ module _ {n : ℕ} {f : Asked → Option View} where
     refuses : (t : Turn) (r : Answer) → own_or14 n t.lent ≡ true → (step x t).answer ≡ r → accepted r ≡ false → Goes n f t r f x
     refuses t r lent e q = goes x t r f i lent e (λ k. ap (λ (y : Bool). next_view k t.call y (f k)) q ∙ still k t.call (f k))
 
-    pub tells-status : (k : Asked) → Goes n f (status k) (reported (status_says (f k))) f x
+    pub tells_status : (k : Asked) → Goes n f (status k) (reported (status_says (f k))) f x
     unfolding next_view
-    tells-status k = goes x (status k) _ f i refl (says-status x k i.ok ∙ ap (λ (v : Option View). reported (status_says v)) (i.views k)) (λ _. refl)
+    tells_status k = goes x (status k) _ f i refl (says_status x k i.ok ∙ ap (λ (v : Option View). reported (status_says v)) (i.views k)) (λ _. refl)
 
-    pub gives-bytes : (k : Asked) (m : ℕ) → Goes n f (fetch k m) (gave (fetching_says (f k) m)) f x
+    pub gives_bytes : (k : Asked) (m : ℕ) → Goes n f (fetch k m) (gave (fetching_says (f k) m)) f x
     unfolding next_view
-    gives-bytes k m = goes x (fetch k m) _ f i refl (says-bytes x k i.ok m ∙ ap (λ (v : Option View). gave (fetching_says v m)) (i.views k)) (λ _. refl)
+    gives_bytes k m = goes x (fetch k m) _ f i refl (says_bytes x k i.ok m ∙ ap (λ (v : Option View). gave (fetching_says v m)) (i.views k)) (λ _. refl)
 
     -- a memory of another length
-    pub refuses-14 : (c : Call) (l : List ℕ) → own_or14 n (other l) ≡ true → accepted (refused_as c 14) ≡ false → Goes n f (record { call = c; lent = other l }) (refused_as c 14) f x
-    refuses-14 c l lent q =
+    pub refuses_14 : (c : Call) (l : List ℕ) → own_or14 n (other l) ≡ true → accepted (refused_as c 14) ≡ false → Goes n f (record { call = c; lent = other l }) (refused_as c 14) f x
+    refuses_14 c l lent q =
         refuses (record { call = c; lent = other l }) (refused_as c 14) lent
         (lent_other x l i.ok (subst (λ (m : ℕ). own_or14 m (other l) ≡ true) (sym i.size) lent) c) q
 
     -- an open watch's key
-    pub refuses-19 : (k : Asked) (q : ℕ) (v : View) → in_range k q ≡ true → f k ≡ some v → Goes n f (opening k q) (did (refused 19)) f x
+    pub refuses_19 : (k : Asked) (q : ℕ) (v : View) → in_range k q ≡ true → f k ≡ some v → Goes n f (opening k q) (did (refused 19)) f x
     unfolding step step_on opened opened_in_range or_refuse_with
-    refuses-19 k q v e w = refuses (opening k q) (did (refused 19)) refl (rw (i.ok, e, viewed x.shelf x.area k v (i.views k ∙ w))) refl
+    refuses_19 k q v e w = refuses (opening k q) (did (refused 19)) refl (rw (i.ok, e, viewed x.shelf x.area k v (i.views k ∙ w))) refl
 
     -- a delivery that is refused before a watch is asked for
-    pub refuses-before : (pid m : ℕ) (b : List ℕ) → current_on pid b ≡ refused m → Goes n f (deliver pid b) (did (refused m)) f x
+    pub refuses_before : (pid m : ℕ) (b : List ℕ) → current_on pid b ≡ refused m → Goes n f (deliver pid b) (did (refused m)) f x
     unfolding delivery_says or_refuse
-    refuses-before pid m b e = refuses (deliver pid b) (did (refused m)) refl (says_delivered x pid b i.ok ∙ ap did (rw e)) refl
+    refuses_before pid m b e = refuses (deliver pid b) (did (refused m)) refl (says_delivered x pid b i.ok ∙ ap did (rw e)) refl
 
     -- ---- a section that is sound and current
     module _ {k : Asked} {version last number : ℕ} {b : List ℕ} (s : TableSection k version last number b) (pid : k.pid ≤ 8191) where
@@ -99,13 +99,13 @@ module _ {n : ℕ} {f : Asked → Option View} where
           says_delivered x k.pid b i.ok
           ∙ rw (s.key, i.views k, le-leb k.pid 8191 pid, s.sound, ne_eqb s.head.current 0 s.current)
 
-      pub refuses-for : (m : ℕ) → delivery_says (f k) (resulted s.head) ≡ refused m → Goes n f (deliver k.pid b) (did (refused m)) f x
-      refuses-for m e = refuses (deliver k.pid b) (did (refused m)) refl (says ∙ ap did e) refl
+      pub refuses_for : (m : ℕ) → delivery_says (f k) (resulted s.head) ≡ refused m → Goes n f (deliver k.pid b) (did (refused m)) f x
+      refuses_for m e = refuses (deliver k.pid b) (did (refused m)) refl (says ∙ ap did e) refl
 
-      pub hears-it : delivery_says (f k) (resulted s.head) ≡ resulted tt
+      pub hears_it : delivery_says (f k) (resulted s.head) ≡ resulted tt
           → Goes n f (deliver k.pid b) (did (resulted tt)) (hearing k b s.head f) x
       unfolding next_view ◌&◌
-      hears-it e = goes x (deliver k.pid b) (did (resulted tt)) (hearing k b s.head f) i refl (says ∙ ap did e) (λ j. rw (s.key, s.sound))
+      hears_it e = goes x (deliver k.pid b) (did (resulted tt)) (hearing k b s.head f) i refl (says ∙ ap did e) (λ j. rw (s.key, s.sound))
 
 -- ---- a stretch
 pub record Answers (n : ℕ) (f : Asked → Option View) (ts : List Turn) (rs : List Answer) : Type 0 where

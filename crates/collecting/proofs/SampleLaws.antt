@@ -28,7 +28,7 @@ use Rattle.shelf.specs.Views.{View, held_or_complete, current_of, current_on, de
 use Rattle.shelf_laws.proofs.EmptyLaws.{empty_law}
 use Rattle.collecting.proofs.FirstHalf.{first_half}
 use Rattle.collecting.proofs.StretchLaws.{AllPlain, Harmless, all_plain, of_table, other_key, plain, stretch_of, too_many, unsound}
-use Rattle.collecting.proofs.KnownLaws.{Answers, Known, answers_end, answers_next, gives-bytes, goes, hearing, hears-it, refuses-14, refuses-19, refuses-before, refuses-for, tells-status}
+use Rattle.collecting.proofs.KnownLaws.{Answers, Known, answers_end, answers_next, gives_bytes, goes, hearing, hears_it, refuses_14, refuses_19, refuses_before, refuses_for, tells_status}
 use Rattle.collecting.specs.Collecting.{Complete, Made, NoneRefused, Own, TableSection, Stretch, WholeTable, state_after, deliver, here, no_more, one_more, recorded, there, ours}
 use Rattle.collecting.specs.Samples.{answers, answers_in, damaged, eit, eit_header, eit_key, empty_state, fresh, mine, opening, section, start, theirs, turns}
 use Rattle.eit.specs.Walked as E
@@ -105,40 +105,40 @@ unfolding if_eq kind_of ◌&◌ ◌⇒◌ all any sum first same_key is_of holds
 both_open = (refl, refl)
 
 module _ (area : List ℕ) (size : length area ≡ room) where
-  pub empty-known : Known room no_views (empty_state 5 2 area)
+  pub empty_known : Known room no_views (empty_state 5 2 area)
   unfolding made or_refuse_with sizes_in_range ◌&◌
-  empty-known = let e = empty_law 5 2 area refl size in record { ok = e.rules; size = size; views = e.no_view }
+  empty_known = let e = empty_law 5 2 area refl size in record { ok = e.rules; size = size; views = e.no_view }
 
-  pub fresh-known : Known room fresh_views (fresh area)
+  pub fresh_known : Known room fresh_views (fresh area)
   unfolding state_after step step_on next_view ◌&◌
-  fresh-known =
-      let a = goes (empty_state 5 2 area) (opening mine 3) (did (resulted tt)) mine_views empty-known refl
+  fresh_known =
+      let a = goes (empty_state 5 2 area) (opening mine 3) (did (resulted tt)) mine_views empty_known refl
       (ap (λ (n : ℕ). did (opened (made 5 2).shelf n mine 3).outcome) size ∙ ap did both_open.0) (λ k. refl) in
       (goes _ (opening theirs 2) (did (resulted tt)) fresh_views a.known refl
       (ap (λ (n : ℕ). did (opened (opened (made 5 2).shelf n mine 3).shelf n theirs 2).outcome) size ∙ ap did both_open.1) (λ k. refl)).known
 
-  pub start-known : Known room start_views (start area)
+  pub start_known : Known room start_views (start area)
   unfolding state_after delivery_says same_key ◌&◌ or_refuse
-  start-known = (hears-it (fresh area) fresh-known old (omega arith) refl).known
+  start_known = (hears_it (fresh area) fresh_known old (omega arith) refl).known
 
 -- ---- what each call of the stretch answers
 sample_answers : Answers room start_views turns answers
 unfolding delivery_says same_key ◌&◌ hears put same_edition status_of held_or_complete if_eq sum current_on in_range watchable kind_of or_refuse
 sample_answers =
-    answers_next (λ x i. hears-it x i (table.sections 2 (omega arith)) (omega arith) refl)
-    (answers_next (λ x i. refuses-before x i 0x1D00 6 damaged (ap current_of damaged_refused))
-    (answers_next (λ x i. hears-it x i (their 1 1 (omega arith) (omega arith)) (omega arith) refl)
-    (answers_next (λ x i. tells-status x i mine)
-    (answers_next (λ x i. hears-it x i (table.sections 0 (omega arith)) (omega arith) refl)
-    (answers_next (λ x i. hears-it x i (table.sections 2 (omega arith)) (omega arith) refl)
-    (answers_next (λ x i. hears-it x i (their 2 0 (omega arith) (omega arith)) (omega arith) refl)
-    (answers_next (λ x i. refuses-for x i long (omega arith) 18 refl)
-    (answers_next (λ x i. gives-bytes x i mine 0)
-    (answers_next (λ x i. refuses-14 x i (delivers (record { pid = 0x1D00; bytes = section 1 })) [] refl refl)
-    (answers_next (λ x i. refuses-19 x i mine 1 _ refl refl)
-    (answers_next (λ x i. tells-status x i theirs)
-    (answers_next (λ x i. hears-it x i (table.sections 1 (omega arith)) (omega arith) refl)
-    (answers_next (λ x i. hears-it x i (table.sections 0 (omega arith)) (omega arith) refl)
+    answers_next (λ x i. hears_it x i (table.sections 2 (omega arith)) (omega arith) refl)
+    (answers_next (λ x i. refuses_before x i 0x1D00 6 damaged (ap current_of damaged_refused))
+    (answers_next (λ x i. hears_it x i (their 1 1 (omega arith) (omega arith)) (omega arith) refl)
+    (answers_next (λ x i. tells_status x i mine)
+    (answers_next (λ x i. hears_it x i (table.sections 0 (omega arith)) (omega arith) refl)
+    (answers_next (λ x i. hears_it x i (table.sections 2 (omega arith)) (omega arith) refl)
+    (answers_next (λ x i. hears_it x i (their 2 0 (omega arith) (omega arith)) (omega arith) refl)
+    (answers_next (λ x i. refuses_for x i long (omega arith) 18 refl)
+    (answers_next (λ x i. gives_bytes x i mine 0)
+    (answers_next (λ x i. refuses_14 x i (delivers (record { pid = 0x1D00; bytes = section 1 })) [] refl refl)
+    (answers_next (λ x i. refuses_19 x i mine 1 _ refl refl)
+    (answers_next (λ x i. tells_status x i theirs)
+    (answers_next (λ x i. hears_it x i (table.sections 1 (omega arith)) (omega arith) refl)
+    (answers_next (λ x i. hears_it x i (table.sections 0 (omega arith)) (omega arith) refl)
     answers_end)))))))))))))
 
 -- ---- what the first half asks of the stretch
@@ -182,21 +182,21 @@ stretch_made (suc (suc zero)) l = here
 stretch_made (suc (suc (suc m))) l = absurd (omega (arith, l))
 
 module _ (area : List ℕ) (size : length area ≡ room) where
-  start-view : view_in (start area) mine ≡ some old_view
+  start_view : view_in (start area) mine ≡ some old_view
   unfolding same_key ◌&◌
-  start-view = (start-known area size).views mine
+  start_view = (start_known area size).views mine
 
-  start-own : Own (length (start area).area) turns
-  start-own = subst (λ (n : ℕ). Own n turns) (sym (start-known area size).size) stretch_own
+  start_own : Own (length (start area).area) turns
+  start_own = subst (λ (n : ℕ). Own n turns) (sym (start_known area size).size) stretch_own
 
   -- it is a stretch for the table, on which all that was said is answered; and so the table is collected
-  pub sample-stretch : Stretch ours table (start area) turns
+  pub sample_stretch : Stretch ours table (start area) turns
   unfolding hears
-  sample-stretch = stretch_of mine table (start area) old_view turns (start-known area size).ok start-view start-own stretch_plain
+  sample_stretch = stretch_of mine table (start area) old_view turns (start_known area size).ok start_view start_own stretch_plain
 
-  pub sample-answered : answers_in (recorded ours (start area) turns) ≡ answers
-  sample-answered = sample_answers.given (start area) (start-known area size)
+  pub sample_answered : answers_in (recorded ours (start area) turns) ≡ answers
+  sample_answered = sample_answers.given (start area) (start_known area size)
 
-  pub sample-collected : NoneRefused ours table (start area) turns × Complete ours table (state_after ours (start area) turns)
+  pub sample_collected : NoneRefused ours table (start area) turns × Complete ours table (state_after ours (start area) turns)
   unfolding hears
-  sample-collected = first_half (start area) mine old_view table turns (start-known area size).ok start-view (omega arith) start-own sample-stretch stretch_made
+  sample_collected = first_half (start area) mine old_view table turns (start_known area size).ok start_view (omega arith) start_own sample_stretch stretch_made

@@ -9,7 +9,7 @@ use lib.Dec.{eqb}
 use lib.ListN.{length}
 use Rattle.logic.specs.Choices.{pick}
 use Rattle.logic.specs.Loops.{◌&◌, all, count}
-use Rattle.logic.proofs.LoopLaws.{all-at}
+use Rattle.logic.proofs.LoopLaws.{all_at}
 use Rattle.refusal.specs.Outcomes.{Outcome, refused, resulted}
 use Rattle.section.specs.declared.header.Header.{Header}
 use Rattle.shelf_state.specs.Records.{same_key}
@@ -19,8 +19,8 @@ use Rattle.shelf.specs.Steps.{State, Turn, accepted, gave, step, reported, view_
 use Rattle.shelf.specs.Views.{Call, Kept, View, asks, bytes_or22, closes, held_or_complete, delivers, edition_of, fetches, fetching_says, fresh_view, hears, hears_in, held_in, is_some, judged, key_in, next_view, opens, put, same_edition, status_of, status_says, complete, held, unheard}
 use Rattle.shelf_laws.specs.Laws.{Obeys, OneStep}
 use Rattle.shelf_laws.proofs.StepLaws.{step_law}
-use Rattle.shelf_laws.proofs.ViewLaws.{unheard-empty}
-use Rattle.collecting.proofs.TurnLaws.{count_says, empty_now, own_next, says-bytes, says-status}
+use Rattle.shelf_laws.proofs.ViewLaws.{unheard_empty_lem}
+use Rattle.collecting.proofs.TurnLaws.{count_says, empty_now, own_next, says_bytes, says_status}
 use Rattle.collecting.specs.Collecting.{FromEmpty, Heard, Own, ToldBy, state_after, bytes_told, continues, history, history_next, heard_with, newest, newest_or22, occurs, one_more, recorded, run, status_told, ours}
 use Rattle.collecting.specs.More.{CompleteOnlyThen, EachAccepted, SecondHalf, nothing_yet}
 
@@ -114,8 +114,8 @@ told_after : (x : State) (k : Asked) (ts : List Turn) (hs : Option (List Heard))
     → ToldBy ours (state_after ours x ts) k (history k hs (recorded ours x ts))
 unfolding state_after history recorded
 told_after x k [] hs ok own t = record {
-  says = says-status x k ok ∙ ap reported (status_told_lem hs (view_in x k) t);
-  gives = λ m. says-bytes x k ok m ∙ ap gave (bytes_told_lem hs (view_in x k) m t);
+  says = says_status x k ok ∙ ap reported (status_told_lem hs (view_in x k) t);
+  gives = λ m. says_bytes x k ok m ∙ ap gave (bytes_told_lem hs (view_in x k) m t);
 }
 told_after x k (u ∷ ts) hs ok (one_more lent own) t =
     let s : OneStep x u = step_law x u ok in
@@ -128,7 +128,7 @@ second_half x k ts ok silent own = told_after x k ts (nothing_yet (view_in x k))
   where
     start : (v : Option View) → view_in x k ≡ v → Told (nothing_yet v) v
     start none e = tt
-    start (some v) e = none_tells v (silent k v e) (unheard-empty x k v ok e (silent k v e))
+    start (some v) e = none_tells v (silent k v e) (unheard_empty_lem x k v ok e (silent k v e))
 
 pub from_empty : FromEmpty ours
 from_empty x k ts e own =
@@ -141,7 +141,7 @@ complete_only B h x k ts n ok silent own e = go (history k (nothing_yet (view_in
   where
     by : (c : Bool) (ds : List Heard) (N : ℕ) → all N (occurs ds) ≡ c → reported (resulted (pick c (complete N) (held (count N (occurs ds)) N))) ≡ reported (resulted (complete n))
         → (n ≡ N) × ((m : ℕ) → m < n → occurs ds m ≡ true)
-    by true ds N a q = let same : n ≡ N = cc in (same, λ m l. all-at (occurs ds) N a m (omega (arith, same, l)))
+    by true ds N a q = let same : n ≡ N = cc in (same, λ m l. all_at (occurs ds) N a m (omega (arith, same, l)))
     by false ds N a q = let z : ◌≡◌ {A = ℕ} 0 1 = cc in absurd (omega (arith, z))
 
     go : (hs : Option (List Heard)) → reported (status_told hs) ≡ reported (resulted (complete n)) → EachAccepted n hs

@@ -76,4 +76,4 @@ stretch_of k table x v (t ∷ ts) ok is (one_more lent later) (plain p ps) =
     let al : Allowed ours table x t = allowed k table x v ok is t lent p in
     let o = turned k table x v ok is t lent al in
     goes_on al (stretch_of k table (step x t).next o.view ts s.keeps o.is_view (own_next s later)
-    (subst (λ (n : ℕ). AllPlain table n ts) (sym o.same-quota) ps))
+    (subst (λ (n : ℕ). AllPlain table n ts) (sym o.same_quota) ps))

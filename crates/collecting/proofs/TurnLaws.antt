@@ -23,13 +23,13 @@ use Rattle.collecting.specs.Collecting.{Own, StartsEmpty, deliver, fetch, status
 
 -- ---- answers
 module _ (x : State) (k : Asked) (ok : Obeys x) where
-  pub says-status : (step x (status k)).answer ≡ reported (status_says (view_in x k))
+  pub says_status : (step x (status k)).answer ≡ reported (status_says (view_in x k))
   unfolding Says
-  says-status = answer_law x (status k) ok
+  says_status = answer_law x (status k) ok
 
-  pub says-bytes : (m : ℕ) → (step x (fetch k m)).answer ≡ gave (fetching_says (view_in x k) m)
+  pub says_bytes : (m : ℕ) → (step x (fetch k m)).answer ≡ gave (fetching_says (view_in x k) m)
   unfolding Says
-  says-bytes m = answer_law x (fetch k m) ok
+  says_bytes m = answer_law x (fetch k m) ok
 
 pub says_delivered : (x : State) (pid : ℕ) (b : List ℕ) → Obeys x → (step x (deliver pid b)).answer ≡ did (delivery_says (view_in x (key_in pid b)) (current_on pid b))
 unfolding Says

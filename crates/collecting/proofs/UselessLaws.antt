@@ -29,11 +29,11 @@ use Rattle.shelf.specs.Delivery.{area_after, delivering}
 use Rattle.shelf.proofs.CallLaws.{passed}
 use Rattle.shelf.specs.Views.{Status, complete, held, unheard, Closing, Delivery, View, bytes_at, closes, held_or_complete, delivers, delivery_says, fresh_view, hears, put, same_edition, status_of, view, view_at}
 use Rattle.shelf.specs.Steps.{Answer, State, Turn, did, fetched_bytes, gave, step, step_on, reported, view_in}
-use Rattle.shelf_laws.proofs.AreaLaws.{paste-after, paste-before, paste-there}
+use Rattle.shelf_laws.proofs.AreaLaws.{paste_after, paste_before, paste_there}
 use Rattle.shelf_laws.proofs.StayLaws.{delivery_stays}
 use Rattle.shelf_laws.proofs.ViewLaws.{never_some, view_elsewhere}
-use Rattle.collecting.proofs.KnownLaws.{Known, hearing, hears-it, tells-status}
-use Rattle.collecting.proofs.SampleLaws.{eit_key_lem, empty-known, fresh-known, fresh_views, room, table}
+use Rattle.collecting.proofs.KnownLaws.{Known, hearing, hears_it, tells_status}
+use Rattle.collecting.proofs.SampleLaws.{eit_key_lem, empty_known, fresh_known, fresh_views, room, table}
 use Rattle.collecting.proofs.SecondHalf.{second_half}
 use Rattle.collecting.specs.Collecting.{Allowed, Build, Complete, Exchange, FirstHalf, Made, NoneRefused, Own, Stretch, state_after, and_then, deliver, end, fetch, history, here, no_more, one_more, recorded, status, status_told, goes_on, there, by_value, ours}
 use Rattle.collecting.specs.More.{SecondHalf, Silent, nothing_yet}
@@ -57,7 +57,7 @@ abbrev in_order : List Turn
 in_order = sends 0 ∷ sends 1 ∷ sends 2 ∷ []
 
 known_0 : Known room fresh_views x
-known_0 = fresh-known blank blank_size
+known_0 = fresh_known blank blank_size
 
 -- ---- they are a stretch of any build
 not_closing : (d : Delivery) (c : Closing) → delivers d ≡ closes c → ⊥
@@ -124,7 +124,7 @@ not_constant a h = not_told (complete 3) (sym (first_done (constant a) h) ∙ (m
 -- ---- storing
 unheard_yet : (step x (status mine)).answer ≡ reported (resulted unheard)
 unfolding same_key ◌&◌ status_of
-unheard_yet = (tells-status x known_0 mine).answer
+unheard_yet = (tells_status x known_0 mine).answer
 
 pub not_stores_nothing : FirstHalf (by_value stores_nothing) → ⊥
 unfolding state_after
@@ -139,19 +139,19 @@ one_on = (step x (sends 0)).next
 
 known_1 : Known room (with_section 0 fresh_views) one_on
 unfolding same_key ◌&◌ delivery_says or_refuse
-known_1 = (hears-it x known_0 (table.sections 0 (omega arith)) (omega arith) refl).known
+known_1 = (hears_it x known_0 (table.sections 0 (omega arith)) (omega arith) refl).known
 
 one_of_three : (step one_on (status mine)).answer ≡ reported (resulted (held 1 3))
 unfolding same_key ◌&◌ hears put same_edition status_of held_or_complete if_eq sum
-one_of_three = (tells-status one_on known_1 mine).answer
+one_of_three = (tells_status one_on known_1 mine).answer
 
 known_2 : Known room (with_section 1 (with_section 0 fresh_views)) (step one_on (sends 1)).next
 unfolding same_key ◌&◌ hears delivery_says or_refuse
-known_2 = (hears-it one_on known_1 (table.sections 1 (omega arith)) (omega arith) refl).known
+known_2 = (hears_it one_on known_1 (table.sections 1 (omega arith)) (omega arith) refl).known
 
 two_of_three : (step (step one_on (sends 1)).next (status mine)).answer ≡ reported (resulted (held 2 3))
 unfolding same_key ◌&◌ hears put same_edition status_of held_or_complete if_eq sum
-two_of_three = (tells-status (step one_on (sends 1)).next known_2 mine).answer
+two_of_three = (tells_status (step one_on (sends 1)).next known_2 mine).answer
 
 -- the first section alone is there at the end
 first_next : (f : Asked → Option View) (z : State) (m : ℕ) (history : Bool) → Known room f z → has_heard (f mine) ≡ history
@@ -226,12 +226,12 @@ pasted i l j =
     let fits : i * 4096 + length (section 0) ≤ length blank = omega (arith, blank_size) in
     let P : List ℕ = paste blank (i * 4096) (section 0) (length (section 0)) in
     ⊎_elim
-    (λ b. paste-before blank (i * 4096) (section 0) fits (j * 4096 + 6) (omega (arith, ltb-true j i b)) ∙ blank_everywhere j)
+    (λ b. paste_before blank (i * 4096) (section 0) fits (j * 4096 + 6) (omega (arith, ltb-true j i b)) ∙ blank_everywhere j)
     (λ b. ⊎_elim
-    (λ c. paste-after blank (i * 4096) (section 0) fits (j * 4096 + 6) (omega (arith, ltb-true i j c)) ∙ blank_everywhere j)
+    (λ c. paste_after blank (i * 4096) (section 0) fits (j * 4096 + 6) (omega (arith, ltb-true i j c)) ∙ blank_everywhere j)
     (λ c. ap (λ (m : ℕ). get_or P (m * 4096 + 6) 0) (omega (arith, ltb-false j i b, ltb-false i j c))
     ∙ sym (get_or-take 14 (drop (i * 4096) P) 6 0 (omega arith) ∙ get_or-drop (i * 4096) P 6 0)
-    ∙ ap (λ (l : List ℕ). get_or l 6 0) (paste-there blank (i * 4096) (section 0) fits)
+    ∙ ap (λ (l : List ℕ). get_or l 6 0) (paste_there blank (i * 4096) (section 0) fits)
     ∙ byte_6 0)
     (both (ltb i j)))
     (both (ltb j i))
@@ -279,10 +279,10 @@ abbrev opened_and : List Turn → List Turn
 opened_and ts = opening mine 3 ∷ opening theirs 2 ∷ ts
 
 module _ (f : ℕ → ℕ → Status) (h : SecondHalf (by_value (telling f))) where
-  told-as : (ts : List Turn) (c n : ℕ) → Own room ts → state_after (by_value (telling f)) before ts ≡ state_after ours before ts → recorded (by_value (telling f)) before ts ≡ recorded ours before ts
+  told_as : (ts : List Turn) (c n : ℕ) → Own room ts → state_after (by_value (telling f)) before ts ≡ state_after ours before ts → recorded (by_value (telling f)) before ts ≡ recorded ours before ts
       → (step (state_after ours before ts) (status mine)).answer ≡ reported (resulted (held c n)) → reported (resulted (f c n)) ≡ reported (resulted (held c n))
-  told-as ts c n lent same_end same-record e =
-      let i = empty-known blank blank_size in
+  told_as ts c n lent same_end same-record e =
+      let i = empty_known blank blank_size in
       let silent : Silent before = λ k v q. never_some v (sym (i.views k) ∙ q) in
       let lent-it = subst (λ (m : ℕ). Own m ts) (sym i.size) lent in
       ap (retold f) (sym e)
@@ -294,11 +294,11 @@ module _ (f : ℕ → ℕ → Status) (h : SecondHalf (by_value (telling f))) wh
 
   after_one : reported (resulted (f 1 3)) ≡ reported (resulted (held 1 3))
   unfolding state_after recorded step step_on
-  after_one = told-as (opened_and (sends 0 ∷ [])) 1 3 (one_more refl (one_more refl (one_more refl no_more))) refl refl one_of_three
+  after_one = told_as (opened_and (sends 0 ∷ [])) 1 3 (one_more refl (one_more refl (one_more refl no_more))) refl refl one_of_three
 
   after_two : reported (resulted (f 2 3)) ≡ reported (resulted (held 2 3))
   unfolding state_after recorded step step_on
-  after_two = told-as (opened_and (sends 0 ∷ sends 1 ∷ [])) 2 3 (one_more refl (one_more refl (one_more refl (one_more refl no_more)))) refl refl two_of_three
+  after_two = told_as (opened_and (sends 0 ∷ sends 1 ∷ [])) 2 3 (one_more refl (one_more refl (one_more refl (one_more refl no_more)))) refl refl two_of_three
 
 pub not_made_up : (c : ℕ) → SecondHalf (by_value (made_up c)) → ⊥
 not_made_up c h =

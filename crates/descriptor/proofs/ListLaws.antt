@@ -12,16 +12,16 @@ use Rattle.format.specs.Repeats.{Bytes}
 use Rattle.format.specs.Formats.{walks, walks_all}
 use Rattle.format.specs.Told.{sized12, sized10}
 use Rattle.format.proofs.FieldLaws.{fields_end}
-use Rattle.format.proofs.SizedLaws.{sized12-there, sized10-there}
+use Rattle.format.proofs.SizedLaws.{sized12_there, sized10_there}
 use Rattle.descriptor.specs.Descriptors.{descriptors}
 use Rattle.descriptor.specs.Places.{list12, list10, list_at, list_end}
 use Rattle.descriptor.specs.Inner.{sized_descriptors}
 
 -- where a walk past it stands: it ends there, and its descriptors fill what is between
 module _ (judged m : ℕ) (s : List ℕ) (end at b : ℕ) (w : walks (sized_descriptors judged m) s end at ≡ To b) where
-  sized-passed : (b ≡ at + 2 + word_at s at % m) × ((b ≤ end) × (walks_all (descriptors judged) s b (at + 2) ≡ To b))
+  sized_passed : (b ≡ at + 2 + word_at s at % m) × ((b ≤ end) × (walks_all (descriptors judged) s b (at + 2) ≡ To b))
   unfolding sized_descriptors
-  sized-passed =
+  sized_passed =
       let p = then_inv _ _ b w in
       let t = fields_end 16 [] 2 refl at end p.0 p.1.0 in
       let q = then_inv _ _ b p.1.1 in
@@ -42,7 +42,7 @@ pub record ListPassed (judged m : ℕ) (s : List ℕ) (end at b : ℕ) : Type 0 
 passed : (judged m : ℕ) (s : List ℕ) (end at b : ℕ) → walks (sized_descriptors judged m) s end at ≡ To b → ListPassed judged m s end at b
 unfolding list_end
 passed judged m s end at b w =
-    let p = sized-passed judged m s end at b w in
+    let p = sized_passed judged m s end at b w in
     record {
       ends = p.0;
       forward = omega (arith, p.0);
@@ -60,18 +60,18 @@ list10_passed judged s end at b w = passed judged 1024 s end at b w
 
 -- where a list lies with its length, its place is this
 module _ (judged : ℕ) (s : List ℕ) (at : ℕ) (z : Bytes s) (r : ℕ) (x : (descriptors judged).Val) where
-  pub list12-there : (sized12 (descriptors judged)).Ok (record {}) ((r, record {}), x)
+  pub list12_there : (sized12 (descriptors judged)).Ok (record {}) ((r, record {}), x)
       → Lies ((sized12 (descriptors judged)).enc ((r, record {}), x)) s at
       → (list_at 4096 s at ≡ record { start = at + 2; length = length ((descriptors judged).enc x) }) × Lies ((descriptors judged).enc x) s (at + 2)
   unfolding list_at
-  list12-there o l =
-      let t = sized12-there s z at (descriptors judged) r x o l in
+  list12_there o l =
+      let t = sized12_there s z at (descriptors judged) r x o l in
       ((λ i. record { start = at + 2; length = t.0 i }), t.1)
 
-  pub list10-there : (sized10 (descriptors judged)).Ok (record {}) ((r, record {}), x)
+  pub list10_there : (sized10 (descriptors judged)).Ok (record {}) ((r, record {}), x)
       → Lies ((sized10 (descriptors judged)).enc ((r, record {}), x)) s at
       → (list_at 1024 s at ≡ record { start = at + 2; length = length ((descriptors judged).enc x) }) × Lies ((descriptors judged).enc x) s (at + 2)
   unfolding list_at
-  list10-there o l =
-      let t = sized10-there s z at (descriptors judged) r x o l in
+  list10_there o l =
+      let t = sized10_there s z at (descriptors judged) r x o l in
       ((λ i. record { start = at + 2; length = t.0 i }), t.1)

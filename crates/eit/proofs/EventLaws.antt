@@ -11,7 +11,7 @@ use Rattle.format.proofs.FieldLaws.{fields_end}
 use Rattle.part.specs.Parts.{end_of}
 use Rattle.strings.specs.Strings.{text, sized_text}
 use Rattle.strings.specs.Places.{text_at, text_end}
-use Rattle.strings.proofs.TextLaws.{text-end, text-inside, text-sound}
+use Rattle.strings.proofs.TextLaws.{text_end_lem, text_inside, text_sound}
 use Rattle.descriptor.specs.Descriptors.{descriptors, content_advisory}
 use Rattle.descriptor.specs.Places.{list12, list_at, list_end}
 use Rattle.descriptor.proofs.ListLaws.{ListPassed, list12_passed}
@@ -20,9 +20,9 @@ use Rattle.eit.specs.Walked.{event}
 use Rattle.eit.specs.Fields.{title_part, descriptors_at, event_end}
 
 module _ (s : List ℕ) (end a b : ℕ) (w : walks event s end a ≡ To b) where
-  pub event-parts : (c : ℕ) × ((walks sized_text s end (behind event_head a) ≡ To c) × (walks (list12 content_advisory) s end c ≡ To b))
+  pub event_parts : (c : ℕ) × ((walks sized_text s end (behind event_head a) ≡ To c) × (walks (list12 content_advisory) s end c ≡ To b))
   unfolding event sized_text list12
-  event-parts =
+  event_parts =
       let p = then_inv _ _ b w in
       let t = fields_end 16 (32 ∷ 4 ∷ 20 ∷ []) 9 refl a end p.0 p.1.0 in
       let q = then_inv _ _ b p.1.1 in
@@ -31,29 +31,29 @@ module _ (s : List ℕ) (end a b : ℕ) (w : walks event s end a ≡ To b) where
   -- the descriptors stand where the title ends
   listed : ListPassed content_advisory 4096 s end (text_end s (behind event_head a)) b
   listed =
-      let p = event-parts in
-      subst (λ c. ListPassed content_advisory 4096 s end c b) (text-end s end (behind event_head a) p.0 p.1.0)
+      let p = event_parts in
+      subst (λ c. ListPassed content_advisory 4096 s end c b) (text_end_lem s end (behind event_head a) p.0 p.1.0)
       (list12_passed content_advisory s end p.0 b p.1.1)
 
-  pub event-ends : b ≡ event_end s a
+  pub event_ends : b ≡ event_end s a
   unfolding event_end
-  event-ends = listed.ends
+  event_ends = listed.ends
 
-  pub event-forward : (a < b) × (b ≤ end)
-  event-forward =
-      let p = event-parts in
-      let t = text-inside s end (behind event_head a) p.0 p.1.0 in
+  pub event_forward : (a < b) × (b ≤ end)
+  event_forward =
+      let p = event_parts in
+      let t = text_inside s end (behind event_head a) p.0 p.1.0 in
       let l = list12_passed content_advisory s end p.0 b p.1.1 in
       (omega arith, l.inside)
 
-  pub title-sound : (end_of (title_part s a) ≤ end) × (walks_all text s (end_of (title_part s a)) (title_part s a).start ≡ To (end_of (title_part s a)))
+  pub title_sound : (end_of (title_part s a) ≤ end) × (walks_all text s (end_of (title_part s a)) (title_part s a).start ≡ To (end_of (title_part s a)))
   unfolding title_part text_at text_end
-  title-sound =
-      let p = event-parts in
-      let e = text-end s end (behind event_head a) p.0 p.1.0 in
-      (omega (arith, e, text-inside s end (behind event_head a) p.0 p.1.0), text-sound s end (behind event_head a) p.0 p.1.0)
+  title_sound =
+      let p = event_parts in
+      let e = text_end_lem s end (behind event_head a) p.0 p.1.0 in
+      (omega (arith, e, text_inside s end (behind event_head a) p.0 p.1.0), text_sound s end (behind event_head a) p.0 p.1.0)
 
-  pub descriptors-sound : (end_of (descriptors_at s a) ≤ end)
+  pub descriptors_sound : (end_of (descriptors_at s a) ≤ end)
       × (walks_all (descriptors content_advisory) s (end_of (descriptors_at s a)) (descriptors_at s a).start ≡ To (end_of (descriptors_at s a)))
   unfolding descriptors_at list_at list_end
-  descriptors-sound = let l = listed in (omega arith, l.sound)
+  descriptors_sound = let l = listed in (omega arith, l.sound)

@@ -8,7 +8,7 @@ use Rattle.bytes_at.specs.declared.Walk.TheVariants.{To}
 use Rattle.bytes_at.specs.Fields.{byte_at}
 use Rattle.bytes_at.specs.Walks.{many}
 use Rattle.bytes_at.specs.Inner.{Stands}
-use Rattle.bytes_at.proofs.WalkLaws.{then_inv, many-inv}
+use Rattle.bytes_at.proofs.WalkLaws.{then_inv, many_inv}
 use Rattle.logic.proofs.ChoiceLaws.{eq_yes, eq_no}
 use Rattle.format.specs.Formats.{walks, walks_all}
 use Rattle.format.proofs.FieldLaws.{fields_end}
@@ -17,7 +17,7 @@ use Rattle.eit.specs.Walked.{event, events, eit}
 use Rattle.eit.specs.Fields.{count_at, first_at, head_at, event_end}
 use Rattle.eit.specs.Questions.{find_from}
 use Rattle.eit.specs.Inner.{Events}
-use Rattle.eit.proofs.EventLaws.{event-forward, event-ends}
+use Rattle.eit.proofs.EventLaws.{event_forward, event_ends}
 
 -- as many as are counted, from behind the count on
 pub body_events : (s : List ℕ) (end at e : ℕ) → walks_all eit s end at ≡ To e
@@ -33,9 +33,9 @@ body_events s end at e w =
 -- behind an event come the others
 pub events_step : (s : List ℕ) (n a : ℕ) → Events s n a → 0 < n → Events s (n - 1) (event_end s a)
 events_step s n a v h =
-    let m = many-inv _ n a v.stands.0 h v.stands.1 in
-    let e = event-ends s v.end a m.0 m.1.0 in
-    let f = event-forward s v.end a m.0 m.1.0 in
+    let m = many_inv _ n a v.stands.0 h v.stands.1 in
+    let e = event_ends s v.end a m.0 m.1.0 in
+    let f = event_forward s v.end a m.0 m.1.0 in
     record {
       end = v.end;
       stands = (v.stands.0, subst (λ b. many (walks event s v.end) (n - 1) b ≡ To v.stands.0) e m.1.1);
@@ -46,15 +46,15 @@ events_step s n a v h =
 
 -- the first that has an id: it is this one, one of those that follow, or none
 module _ (s : List ℕ) (id : ℕ) where
-  pub find-here : (n a : ℕ) → 0 < n → (head_at s a).id ≡ id → At a ≡ find_from s id n a
+  pub find_here : (n a : ℕ) → 0 < n → (head_at s a).id ≡ id → At a ≡ find_from s id n a
   unfolding find_from
-  find-here zero a h e = absurd (omega arith)
-  find-here (suc n) a h e = eq_yes (head_at s a).id id _ _ e refl
+  find_here zero a h e = absurd (omega arith)
+  find_here (suc n) a h e = eq_yes (head_at s a).id id _ _ e refl
 
-  pub find-next : (n a : ℕ) → 0 < n → ((head_at s a).id ≡ id → ⊥) → find_from s id (n - 1) (event_end s a) ≡ find_from s id n a
+  pub find_next : (n a : ℕ) → 0 < n → ((head_at s a).id ≡ id → ⊥) → find_from s id (n - 1) (event_end s a) ≡ find_from s id n a
   unfolding find_from
-  find-next zero a h e = absurd (omega arith)
-  find-next (suc n) a h e = rw sub-one (eq_no (head_at s a).id id _ _ e refl)
+  find_next zero a h e = absurd (omega arith)
+  find_next (suc n) a h e = rw sub-one (eq_no (head_at s a).id id _ _ e refl)
 
   pub find_none : (n a : ℕ) → n ≡ 0 → Nowhere ≡ find_from s id n a
   unfolding find_from

@@ -85,14 +85,14 @@ part_sound_lem f bytes p e = (leb-true _ _ (and_left _ _ e), stands_yes _ (and_r
 
 -- the test of a part that goes past the end, and of one that does not
 module _ (f : Filling One) (bytes : List ℕ) (p : Part) where
-  pub part-past : length bytes < end_of p → false ≡ part_sound f bytes p
+  pub part_past : length bytes < end_of p → false ≡ part_sound f bytes p
   unfolding part_sound
-  part-past h = sym (and_no_left _ _ (lt-leb _ _ h))
+  part_past h = sym (and_no_left _ _ (lt-leb _ _ h))
 
-  pub part-told : {t : List ℕ} {w : Walk} {r : Bool} → end_of p ≤ length bytes → t ≡ bytes_in bytes p → w ≡ walks_all f t (length t) 0
+  pub part_told : {t : List ℕ} {w : Walk} {r : Bool} → end_of p ≤ length bytes → t ≡ bytes_in bytes p → w ≡ walks_all f t (length t) 0
       → r ≡ stands w → r ≡ part_sound f bytes p
   unfolding part_sound ◌&◌
-  part-told h e k g = rw (le-leb _ _ h) (g ∙ ap stands (k ∙ ap (λ l. walks_all f l (length l) 0) e))
+  part_told h e k g = rw (le-leb _ _ h) (g ∙ ap stands (k ∙ ap (λ l. walks_all f l (length l) 0) e))
 
 pub row_sound_lem : (rows bytes : List ℕ) (a : ℕ) → row_sound rows bytes a ≡ true
     → Sound text bytes (title_given rows a) × Sound (descriptors content_advisory) bytes (list_given rows a)
@@ -101,14 +101,14 @@ row_sound_lem rows bytes a e = (part_sound_lem _ bytes _ (and_left _ _ e), part_
 
 -- the test of a row
 module _ (rows bytes : List ℕ) (a : ℕ) where
-  pub title-bad : {p : Part} {r : Bool} → p ≡ title_given rows a → r ≡ part_sound text bytes p → r ≡ false → false ≡ row_sound rows bytes a
+  pub title_bad : {p : Part} {r : Bool} → p ≡ title_given rows a → r ≡ part_sound text bytes p → r ≡ false → false ≡ row_sound rows bytes a
   unfolding row_sound ◌&◌
-  title-bad e f g = rw (← e, ← f, g)
+  title_bad e f g = rw (← e, ← f, g)
 
-  pub title-good : {p q : Part} {r b : Bool} → p ≡ title_given rows a → r ≡ part_sound text bytes p → r ≡ true → q ≡ list_given rows a
+  pub title_good : {p q : Part} {r b : Bool} → p ≡ title_given rows a → r ≡ part_sound text bytes p → r ≡ true → q ≡ list_given rows a
       → b ≡ part_sound (descriptors content_advisory) bytes q → b ≡ row_sound rows bytes a
   unfolding row_sound ◌&◌
-  title-good e f g h k = rw (← e, ← f, g, ← h) k
+  title_good e f g h k = rw (← e, ← f, g, ← h) k
 
 -- the bytes of its event, whose places lie within the bytes
 pub event_length : (rows bytes : List ℕ) (a : ℕ) → end_of (title_given rows a) ≤ length bytes → end_of (list_given rows a) ≤ length bytes
@@ -145,53 +145,53 @@ module _ {all : ℕ → ℕ → Bool} {one : ℕ → Bool} (t : Each all one) wh
   each_on zero a h e = absurd (omega arith)
   each_on (suc n) a h e = rw (sub-one, t.more n a, e)
 
-  pub each-stop : (n a : ℕ) → 0 < n → one a ≡ false → false ≡ all n a
+  pub each_stop : (n a : ℕ) → 0 < n → one a ≡ false → false ≡ all n a
   unfolding ◌&◌
-  each-stop zero a h e = absurd (omega arith)
-  each-stop (suc n) a h e = rw (t.more n a, e)
+  each_stop zero a h e = absurd (omega arith)
+  each_stop (suc n) a h e = rw (t.more n a, e)
 
   pub each_none : (n a : ℕ) → n ≡ 0 → true ≡ all n a
   each_none n a e = rw e (sym (t.none a))
 
 module _ (rows : List ℕ) where
   -- the first, and the others
-  pub size-first : (n a : ℕ) → 0 < n
+  pub size_first : (n a : ℕ) → 0 < n
       → size_given rows n a ≡ 12 + (title_given rows a).length + (list_given rows a).length + size_given rows (n - 1) (a + 8)
   unfolding size_given
-  size-first zero a h = absurd (omega arith)
-  size-first (suc n) a h = rw sub-one
+  size_first zero a h = absurd (omega arith)
+  size_first (suc n) a h = rw sub-one
 
   pub size_none : (n a : ℕ) → n ≡ 0 → size_given rows n a ≡ 0
   unfolding size_given
   size_none n a e = rw e
 
   -- rows whose numbers have room take no more bytes than the largest events do
-  pub size-most : (n a : ℕ) → rows_fit rows n a ≡ true → size_given rows n a ≤ 4362 * n
+  pub size_most : (n a : ℕ) → rows_fit rows n a ≡ true → size_given rows n a ≤ 4362 * n
   unfolding size_given rows_fit
-  size-most zero a e = omega arith
-  size-most (suc n) a e =
+  size_most zero a e = omega arith
+  size_most (suc n) a e =
       let r = row_room rows a (and_left _ _ e) in
-      omega (arith, size-most n (a + 8) (and_right _ _ e), r.title, r.list)
+      omega (arith, size_most n (a + 8) (and_right _ _ e), r.title, r.list)
 
   -- the bytes of the events
-  pub events-length : (bytes : List ℕ) (n a : ℕ) → rows_sound rows bytes n a ≡ true
+  pub events_length : (bytes : List ℕ) (n a : ℕ) → rows_sound rows bytes n a ≡ true
       → length (encs (event_of any_bytes any_bytes).enc (events_given rows bytes n a)) ≡ size_given rows n a
   unfolding rows_sound events_given size_given
-  events-length bytes zero a e = refl
-  events-length bytes (suc n) a e =
+  events_length bytes zero a e = refl
+  events_length bytes (suc n) a e =
       let s = row_sound_lem rows bytes a (and_left _ _ e) in
       omega (
         arith,
         length-append ((event_of any_bytes any_bytes).enc (event_given rows bytes a)) (encs (event_of any_bytes any_bytes).enc (events_given rows bytes n (a + 8))),
         event_length rows bytes a s.0.0 s.1.0,
-        events-length bytes n (a + 8) (and_right _ _ e),
+        events_length bytes n (a + 8) (and_right _ _ e),
       )
 
   -- as many as rows
-  pub events-count : (bytes : List ℕ) (n a : ℕ) → length (events_given rows bytes n a) ≡ n
+  pub events_count : (bytes : List ℕ) (n a : ℕ) → length (events_given rows bytes n a) ≡ n
   unfolding events_given
-  events-count bytes zero a = refl
-  events-count bytes (suc n) a = ap suc (events-count bytes n (a + 8))
+  events_count bytes zero a = refl
+  events_count bytes (suc n) a = ap suc (events_count bytes n (a + 8))
 
 -- ---- the events of rows that fit and are sound are events of the judged format
 -- e is the event of the row that begins at a: it is well formed, its bytes are those that are written, its parts are those given,
@@ -211,24 +211,24 @@ AreGiven rows bytes a (e ∷ es) = IsGiven rows bytes a e × AreGiven rows bytes
 
 module _ (rows bytes : List ℕ) where
   -- so they are all well formed, their reserved bits are ones, and their bytes are those that are written
-  pub given-good : (a : ℕ) (es : List EventFields) → AreGiven rows bytes a es → All (event_format.Ok (record {})) es
-  given-good a [] g = record {}
-  given-good a (e ∷ es) g = (g.0.good, given-good (a + 8) es g.1)
+  pub given_good : (a : ℕ) (es : List EventFields) → AreGiven rows bytes a es → All (event_format.Ok (record {})) es
+  given_good a [] g = record {}
+  given_good a (e ∷ es) g = (g.0.good, given_good (a + 8) es g.1)
 
-  pub given-ones : (a : ℕ) (es : List EventFields) → AreGiven rows bytes a es → All OnesEvent es
-  given-ones a [] g = record {}
-  given-ones a (e ∷ es) g = (g.0.ones, given-ones (a + 8) es g.1)
+  pub given_ones : (a : ℕ) (es : List EventFields) → AreGiven rows bytes a es → All OnesEvent es
+  given_ones a [] g = record {}
+  given_ones a (e ∷ es) g = (g.0.ones, given_ones (a + 8) es g.1)
 
-  pub given-same : (a : ℕ) (es : List EventFields) → AreGiven rows bytes a es
+  pub given_same : (a : ℕ) (es : List EventFields) → AreGiven rows bytes a es
       → encs event_format.enc es ≡ encs (event_of any_bytes any_bytes).enc (events_given rows bytes (length es) a)
   unfolding events_given
-  given-same a [] g = refl
-  given-same a (e ∷ es) g = let x = g.0.same in let xs = given-same (a + 8) es g.1 in λ i. x i ++ xs i
+  given_same a [] g = refl
+  given_same a (e ∷ es) g = let x = g.0.same in let xs = given_same (a + 8) es g.1 in λ i. x i ++ xs i
 
 module _ (rows bytes : List ℕ) (z : Bytes bytes) where
-  pub event-given : (a : ℕ) → row_fits rows a ≡ true → row_sound rows bytes a ≡ true → (e : EventFields) × IsGiven rows bytes a e
+  pub event_given_lem : (a : ℕ) → row_fits rows a ≡ true → row_sound rows bytes a ≡ true → (e : EventFields) × IsGiven rows bytes a e
   unfolding event_given
-  event-given a f s =
+  event_given_lem a f s =
       let r = row_room rows a f in
       let p = title_given rows a in
       let q = list_given rows a in
@@ -255,27 +255,27 @@ module _ (rows bytes : List ℕ) (z : Bytes bytes) where
         },
       )
 
-  pub events-given : (n a : ℕ) → rows_fit rows n a ≡ true → rows_sound rows bytes n a ≡ true
+  pub events_given_lem : (n a : ℕ) → rows_fit rows n a ≡ true → rows_sound rows bytes n a ≡ true
       → (es : List EventFields) × (AreGiven rows bytes a es × (length es ≡ n))
   unfolding rows_fit rows_sound
-  events-given zero a f s = ([], (record {}, refl))
-  events-given (suc n) a f s =
-      let e = event-given a (and_left _ _ f) (and_left _ _ s) in
-      let es = events-given n (a + 8) (and_right _ _ f) (and_right _ _ s) in
+  events_given_lem zero a f s = ([], (record {}, refl))
+  events_given_lem (suc n) a f s =
+      let e = event_given_lem a (and_left _ _ f) (and_left _ _ s) in
+      let es = events_given_lem n (a + 8) (and_right _ _ f) (and_right _ _ s) in
       (e.0 ∷ es.0, ((e.1, es.1.0), ap suc es.1.1))
 
   -- and the body of as many events as its count can tell is a body of the judged format
-  pub body-given : (n : ℕ) → n < 256 → rows_fit rows n 0 ≡ true → rows_sound rows bytes n 0 ≡ true
+  pub body_given : (n : ℕ) → n < 256 → rows_fit rows n 0 ≡ true → rows_sound rows bytes n 0 ≡ true
       → (b : EitFields) × ((eit_format.Ok (record {}) b × (eit_format.enc b ≡ (eit_of any_bytes any_bytes).enc (record { events = events_given rows bytes n 0 })))
       × (AreGiven rows bytes 0 b.events × (length b.events ≡ n)))
-  body-given n h f s =
-      let es = events-given n 0 f s in
-      let e = given-same rows bytes 0 es.0 es.1.0 ∙ ap (λ m. encs (event_of any_bytes any_bytes).enc (events_given rows bytes m 0)) es.1.1 in
-      let c : length es.0 ≡ length (events_given rows bytes n 0) = es.1.1 ∙ sym (events-count rows bytes n 0) in (
+  body_given n h f s =
+      let es = events_given_lem n 0 f s in
+      let e = given_same rows bytes 0 es.0 es.1.0 ∙ ap (λ m. encs (event_of any_bytes any_bytes).enc (events_given rows bytes m 0)) es.1.1 in
+      let c : length es.0 ≡ length (events_given rows bytes n 0) = es.1.1 ∙ sym (events_count rows bytes n 0) in (
         record { events = es.0 },
         (
           (
-            (record {}, (omega (arith, es.1.1), (refl, given-good rows bytes 0 es.0 es.1.0))),
+            (record {}, (omega (arith, es.1.1), (refl, given_good rows bytes 0 es.0 es.1.0))),
             λ i. bytes_of 1 (0 + c i) ++ e i,
           ),
           es.1,

@@ -11,7 +11,7 @@ use Rattle.format.specs.Repeats.{Bytes, encs}
 use Rattle.format.specs.Values.{bits, bytes_of}
 use Rattle.format.specs.Laws.OfValues.{bytes_length}
 use Rattle.format.specs.Laws.OfFull.{counting_full}
-use Rattle.format.proofs.SizedLaws.{counted8-there}
+use Rattle.format.proofs.SizedLaws.{counted8_there}
 use Rattle.strings.specs.Strings.{text, structure, string, segment}
 use Rattle.eit.specs.Titles.{title_of}
 use Rattle.eit.specs.Values.{title_for}
@@ -21,7 +21,7 @@ pub title_is : (s : List ℕ) → Bytes s → (a : ℕ) (t : text.Val) → text.
 unfolding text structure string title_of title_for
 title_is s z a none o l = sym (eq_yes 0 0 _ _ refl refl)
 title_is s z a (some []) o l =
-    let b = (counted8-there s z a string [] o l).0 in
+    let b = (counted8_there s z a string [] o l).0 in
     let n = length-append (bytes_of 1 (0 + 0)) [] in
     let k : length (bytes_of 1 (0 + 0) ++ []) ≡ 1 = omega (arith, bytes_length 1 (0 + 0)) in
     sym (eq_no _ 0 _ _ (λ e. omega arith) (eq_yes _ 1 _ _ k (eq_yes _ 0 _ _ b refl)))

@@ -7,18 +7,18 @@ use lib.ListN.{length}
 use Rattle.bytes_at.specs.declared.Walk.TheVariants.{To}
 use Rattle.bytes_at.specs.Walks.{many, standing}
 use Rattle.bytes_at.specs.Inner.{Stands}
-use Rattle.bytes_at.proofs.WalkLaws.{many-in, reached, stands_at, standing_to, standing_is}
+use Rattle.bytes_at.proofs.WalkLaws.{many_in, reached, stands_at, standing_to, standing_is}
 use Rattle.refusal.specs.Outcomes.{Outcome, refused, resulted, after}
 use Rattle.refusal.proofs.OutcomeLaws.{after_is}
-use Rattle.refusal.proofs.TestLaws.{lets-lt, stops-lt, passed-lt}
-use Rattle.kind.specs.Kinds.{only_of}
+use Rattle.refusal.proofs.TestLaws.{lets_lt, stops_lt, passed_lt}
+use Rattle.kind.specs.Kinds.{onlyOf}
 use Rattle.format.specs.Formats.{walks}
-use Rattle.mgt.proofs.DefinedLaws.{defined-forward}
+use Rattle.mgt.proofs.DefinedLaws.{defined_forward}
 use Rattle.mgt.proofs.BodyLaws.{body_tables}
-use Rattle.channel.proofs.ChannelLaws.{channel-forward}
+use Rattle.channel.proofs.ChannelLaws.{channel_forward}
 use Rattle.tvct.proofs.BodyLaws.{body_channels}
-use Rattle.rrt.proofs.WalkLaws.{dimension-forward, body-dimensions}
-use Rattle.eit.proofs.EventLaws.{event-forward}
+use Rattle.rrt.proofs.WalkLaws.{dimension_forward, body_dimensions}
+use Rattle.eit.proofs.EventLaws.{event_forward}
 use Rattle.eit.proofs.EventsLaws.{body_events}
 use Rattle.section.specs.declared.header.Header.{Header}
 use Rattle.section.specs.Walked.{body_of}
@@ -35,28 +35,28 @@ use Rattle.entry.specs.Inner.{Begins, Inside}
 
 -- ---- an entry that is counted begins where the walk stands, and 13 where it is not
 module _ (e : Entry) (s : List ℕ) (i : ℕ) where
-  pub spot-there : {r : Outcome ℕ} → i < entry_count e s → r ≡ standing (entry_walk e s i) → r ≡ spot_in e s i
+  pub spot_there : {r : Outcome ℕ} → i < entry_count e s → r ≡ standing (entry_walk e s i) → r ≡ spot_in e s i
   unfolding spot_in
-  spot-there h w = lets-lt 13 i (entry_count e s) (standing (entry_walk e s i)) h w
+  spot_there h w = lets_lt 13 i (entry_count e s) (standing (entry_walk e s i)) h w
 
-  pub spot-none : entry_count e s ≤ i → refused 13 ≡ spot_in e s i
+  pub spot_none : entry_count e s ≤ i → refused 13 ≡ spot_in e s i
   unfolding spot_in
-  spot-none h = stops-lt 13 i (entry_count e s) (standing (entry_walk e s i)) h refl
+  spot_none h = stops_lt 13 i (entry_count e s) (standing (entry_walk e s i)) h refl
 
 -- ---- where the entries of a section stand
 -- an entry ends where its container does or before
 pub entry_inside : (e : Entry) (s : List ℕ) (end a b : ℕ) → walks (format_of e) s end a ≡ To b → b ≤ end
 unfolding format_of
-entry_inside Table s end a b w = (defined-forward s end a b w).1
-entry_inside Channel s end a b w = (channel-forward s end a b w).1
-entry_inside Dimension s end a b w = (dimension-forward s end a b w).1
-entry_inside Event s end a b w = (event-forward s end a b w).1
+entry_inside Table s end a b w = (defined_forward s end a b w).1
+entry_inside Channel s end a b w = (channel_forward s end a b w).1
+entry_inside Dimension s end a b w = (dimension_forward s end a b w).1
+entry_inside Event s end a b w = (event_forward s end a b w).1
 
 -- so entry i begins within the bytes
 pub entries_inside : (e : Entry) (s : List ℕ) (i a : ℕ) → Begins e s → entry_walk e s i ≡ To a → a ≤ length s
 unfolding entry_walk
 entries_inside e s i a g w =
-    many-in _ (length s) (λ b c v. let t = entry_inside e s (length s - 4) b c v in omega arith) i (first_entry e s) a g.first w
+    many_in _ (length s) (λ b c v. let t = entry_inside e s (length s - 4) b c v in omega arith) i (first_entry e s) a g.first w
 
 -- a body that is walked has as many entries as are counted
 body_entries : (e : Entry) (s : List ℕ) (x : ℕ) → body_walk (kind_of_entry e) s ≡ To x
@@ -64,15 +64,15 @@ body_entries : (e : Entry) (s : List ℕ) (x : ℕ) → body_walk (kind_of_entry
 unfolding body_of entry_walk entry_count first_entry format_of
 body_entries Table s x w = let p = body_tables s (length s - 4) (start_of Table) x w in ((p.0, p.1.0), p.1.1.1)
 body_entries Channel s x w = let p = body_channels s (length s - 4) (start_of Channel) x w in ((p.0, p.1.0), p.1.1.1)
-body_entries Dimension s x w = let p = body-dimensions s (length s - 4) (start_of Dimension) x w in ((p.0, p.1.0), p.1.1.1)
+body_entries Dimension s x w = let p = body_dimensions s (length s - 4) (start_of Dimension) x w in ((p.0, p.1.0), p.1.1.1)
 body_entries Event s x w = body_events s (length s - 4) (start_of Event) x w
 
-module _ (e : Entry) (s : List ℕ) (h : Header) (judged : section_by (only_of (kind_of_entry e)) s ≡ resulted h) where
-  pub judged-entries : Stands (entry_walk e s (entry_count e s))
-  judged-entries = let w = (section_sound (kind_of_entry e) s h judged).1 in (body_entries e s w.0 w.1).0
+module _ (e : Entry) (s : List ℕ) (h : Header) (judged : section_by (onlyOf (kind_of_entry e)) s ≡ resulted h) where
+  pub judged_entries : Stands (entry_walk e s (entry_count e s))
+  judged_entries = let w = (section_sound (kind_of_entry e) s h judged).1 in (body_entries e s w.0 w.1).0
 
-  pub judged-begins : Begins e s
-  judged-begins =
+  pub judged_begins : Begins e s
+  judged_begins =
       let p = section_sound (kind_of_entry e) s h judged in
       let f = (body_entries e s p.1.0 p.1.1).1 in
       let k = start_fits (kind_of_entry e) in
@@ -84,23 +84,23 @@ module _ (e : Entry) (s : List ℕ) (h : Header) (judged : section_by (only_of (
   pub entry_found : (i : ℕ) → i < entry_count e s → (a : ℕ) × (spot_of e s i ≡ resulted a)
   unfolding spot_of entry_walk after
   entry_found i l =
-      let j = judged-entries in
+      let j = judged_entries in
       let r = reached _ i (entry_count e s) (first_entry e s) j.0 (omega arith) j.1 in
       let w = standing_to _ _ r.1 in
-      (r.0, rw judged (sym (spot-there e s i {r = resulted r.0} l w)))
+      (r.0, rw judged (sym (spot_there e s i {r = resulted r.0} l w)))
 
-  pub rest-found : (b : ℕ) × (rest_in e s ≡ resulted b)
+  pub rest_found : (b : ℕ) × (rest_in e s ≡ resulted b)
   unfolding rest_in
-  rest-found = (judged-entries.0, sym (standing_to _ _ judged-entries.1))
+  rest_found = (judged_entries.0, sym (standing_to _ _ judged_entries.1))
 
 -- an entry that was found stands, and ends before the checksum
 pub entry_stands : (e : Entry) (s : List ℕ) (i a : ℕ) → spot_of e s i ≡ resulted a → Stands (walks (format_of e) s (length s - 4) a)
 unfolding spot_of spot_in entry_walk
 entry_stands e s i a q =
-    let h = after_is (section_by (only_of (kind_of_entry e)) s) _ a q in
-    let l = passed-lt 13 i (entry_count e s) _ a h.1.1 in
+    let h = after_is (section_by (onlyOf (kind_of_entry e)) s) _ a q in
+    let l = passed_lt 13 i (entry_count e s) _ a h.1.1 in
     let w = standing_is (entry_walk e s i) a l.1 in
-    let j = judged-entries e s h.0 h.1.0 in
+    let j = judged_entries e s h.0 h.1.0 in
     stands_at _ i (entry_count e s) (first_entry e s) a j.0 l.0 j.1 w
 
 -- where a spot is, is within the bytes

@@ -13,15 +13,15 @@ use Rattle.bytes_at.specs.declared.Walk.{Walk}
 use Rattle.bytes_at.specs.declared.Walk.TheVariants.{To, Bad}
 use Rattle.logic.specs.Choices.{pick}
 use Rattle.bytes_at.specs.Walks.{skip_to, bits_to, fields_to, then}
-use Rattle.bytes_at.proofs.WalkLaws.{skip_fits, skip_past, bits-on, bits-past, bits_done}
+use Rattle.bytes_at.proofs.WalkLaws.{skip_fits, skip_past, bits_on, bits_past, bits_done}
 use Rattle.format.specs.Lawful.{total}
-use Rattle.format.specs.Laws.OfBytes.{bits_begin, fields-took}
+use Rattle.format.specs.Laws.OfBytes.{bits_begin, fields_took}
 
 -- fields of no bits at a head's end change nothing
 bits_none : (z p end : ℕ) → p ≤ 8 * end → To (p / 8) ≡ bits_to (replicate z 0) p end
 bits_none zero p end h = bits_done p end (p / 8) refl
 bits_none (suc z) p end h =
-    bits-on 0 (replicate z 0) p end (omega arith)
+    bits_on 0 (replicate z 0) p end (omega arith)
     (ap (λ q. To (q / 8)) (omega arith) ∙ bits_none z (p + 0) end (omega arith))
 
 pick_first : {A : Type 0} (t : Bool) (a b c : A) → (t ≡ true → a ≡ b) → pick t a c ≡ pick t b c
@@ -41,9 +41,9 @@ pad n ns z at end = bits_pad n ns z (8 * at) end
 pub skip_field : (n at end : ℕ) → fields_to (8 * n ∷ []) at end ≡ skip_to 0 at n end
 unfolding fields_to
 skip_field n at end = ⊎_elim
-    (λ h. sym (bits-on (8 * n) [] (8 * at) end (omega arith) (bits_done (8 * at + 8 * n) end (at + n) (omega arith)))
+    (λ h. sym (bits_on (8 * n) [] (8 * at) end (omega arith) (bits_done (8 * at + 8 * n) end (at + n) (omega arith)))
     ∙ skip_fits 0 at n end (omega arith))
-    (λ h. sym (bits-past (8 * n) [] (8 * at) end at (omega arith) (omega arith))
+    (λ h. sym (bits_past (8 * n) [] (8 * at) end at (omega arith) (omega arith))
     ∙ skip_past 0 at n end at (omega arith) (omega arith))
     (eq-zero-or-pos (at + n - end))
 
@@ -53,20 +53,20 @@ pub fields_end : (n : ℕ) (ns : List ℕ) (k : ℕ) → total (n ∷ ns) ≡ 8 
 unfolding fields_to
 fields_end n ns k whole at end b e =
     let t = bits_begin n ns (8 * at) end b e in
-    fields-took (n ∷ ns) k whole at end b (omega arith) e
+    fields_took (n ∷ ns) k whole at end b (omega arith) e
 
 -- fields that begin in one byte are as good as one: to blame is that byte
 pub merge : (a b : ℕ) (ns : List ℕ) (at end : ℕ) → a < 8 → fields_to (a ∷ b ∷ ns) at end ≡ fields_to ((a + b) ∷ ns) at end
 unfolding fields_to
 merge a b ns at end h = ⊎_elim
     (λ t. let q : 8 * at + a + b ≡ 8 * at + (a + b) = omega arith in
-    sym (bits-on a (b ∷ ns) (8 * at) end (omega arith) (bits-on b ns (8 * at + a) end (omega arith) refl))
-    ∙ ap (λ p. bits_to ns p end) q ∙ bits-on (a + b) ns (8 * at) end (omega arith) refl)
+    sym (bits_on a (b ∷ ns) (8 * at) end (omega arith) (bits_on b ns (8 * at + a) end (omega arith) refl))
+    ∙ ap (λ p. bits_to ns p end) q ∙ bits_on (a + b) ns (8 * at) end (omega arith) refl)
     (λ t. ⊎_elim
-    (λ u. sym (bits-on a (b ∷ ns) (8 * at) end (omega arith) (bits-past b ns (8 * at + a) end at (omega arith) (omega arith))))
-    (λ u. sym (bits-past a (b ∷ ns) (8 * at) end at (omega arith) (omega arith)))
+    (λ u. sym (bits_on a (b ∷ ns) (8 * at) end (omega arith) (bits_past b ns (8 * at + a) end at (omega arith) (omega arith))))
+    (λ u. sym (bits_past a (b ∷ ns) (8 * at) end at (omega arith) (omega arith)))
     (eq-zero-or-pos (8 * at + a - 8 * end))
-    ∙ bits-past (a + b) ns (8 * at) end at (omega arith) (omega arith))
+    ∙ bits_past (a + b) ns (8 * at) end at (omega arith) (omega arith))
     (eq-zero-or-pos (8 * at + (a + b) - 8 * end))
 
 -- a head is passed in two parts, of which the first is of whole bytes

@@ -37,9 +37,9 @@ module _ (s : List ℕ) (end at : ℕ) (h : at ≤ end) (m : end ≤ length s) (
   )
 
   -- a filling's walk comes to the container's end exactly when all its bytes are those of a well-formed value
-  pub accepted-all : {C : Type 0} (f : Filling C) (c : C)
+  pub accepted_all : {C : Type 0} (f : Filling C) (c : C)
       → (f.walk c s end at ≡ To end) ↔ ((x : f.Val) × (f.Ok c x × (between s at end ≡ f.enc x)))
-  accepted-all f c = (
+  accepted_all f c = (
     (λ w.
         let u = (f.law c).complete s end at h m z w in
         let n : end - at ≡ length (f.enc u.0) = omega arith in

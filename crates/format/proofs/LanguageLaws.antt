@@ -6,7 +6,7 @@ use native.Mathlib.Omega.{arith}
 use lib.ListN.{length}
 use lib.Seq.{take_all}
 use Rattle.format.specs.Language.{Language}
-use Rattle.format.proofs.FormatLaws.{accepted-all}
+use Rattle.format.proofs.FormatLaws.{accepted_all}
 
 same : {A : Type 0} → A ↔ A
 same = ((λ a. a), (λ a. a))
@@ -43,7 +43,7 @@ language = record {
   of_under = λ f to from p q x. (same, refl);
   of_under_all = λ f to from p q x. (same, refl);
   of_walked = λ f s z.
-      let a = accepted-all s (length s) 0 (omega arith) (omega arith) z f (record {}) in
+      let a = accepted_all s (length s) 0 (omega arith) (omega arith) z f (record {}) in
       let b = take_all (length s - 0) s (omega arith) in
       ((λ w. let u = a.0 w in (u.0, (u.1.0, sym b ∙ u.1.1))), (λ u. a.1 (u.0, (u.1.0, b ∙ u.1.1))));
 }

@@ -22,11 +22,11 @@ pub record Stand (f : Format One) (s : List ℕ) (end a : ℕ) (xs : List f.Val)
 
 module _ (f : Format One) (s : List ℕ) (end : ℕ) where
   -- so does the first, and so do those behind it
-  pub first-lies : (a : ℕ) (x : f.Val) (xs : List f.Val) → Stand f s end a (x ∷ xs) → Lies (f.enc x) s a
-  first-lies a x xs g = (lies_split (f.enc x) (encs f.enc xs) s a g.lies).0
+  pub first_lies : (a : ℕ) (x : f.Val) (xs : List f.Val) → Stand f s end a (x ∷ xs) → Lies (f.enc x) s a
+  first_lies a x xs g = (lies_split (f.enc x) (encs f.enc xs) s a g.lies).0
 
-  pub rest-stand : (a : ℕ) (x : f.Val) (xs : List f.Val) → Stand f s end a (x ∷ xs) → Stand f s end (a + length (f.enc x)) xs
-  rest-stand a x xs g =
+  pub rest_stand : (a : ℕ) (x : f.Val) (xs : List f.Val) → Stand f s end a (x ∷ xs) → Stand f s end (a + length (f.enc x)) xs
+  rest_stand a x xs g =
       let i = g.inside in
       record {
         good = g.good.1;
@@ -34,38 +34,38 @@ module _ (f : Format One) (s : List ℕ) (end : ℕ) where
         inside = omega (arith, length-append (f.enc x) (encs f.enc xs));
       }
 
-  pub first-inside : (a : ℕ) (x : f.Val) (xs : List f.Val) → Stand f s end a (x ∷ xs) → a + length (f.enc x) ≤ end
-  first-inside a x xs g = let i = g.inside in omega (arith, length-append (f.enc x) (encs f.enc xs))
+  pub first_inside : (a : ℕ) (x : f.Val) (xs : List f.Val) → Stand f s end a (x ∷ xs) → a + length (f.enc x) ≤ end
+  first_inside a x xs g = let i = g.inside in omega (arith, length-append (f.enc x) (encs f.enc xs))
 
   pub first_walks : (a : ℕ) (x : f.Val) (xs : List f.Val) → Stand f s end a (x ∷ xs) → walks f s end a ≡ To (a + length (f.enc x))
-  first_walks a x xs g = (f.law (record {})).sound s end a x g.good.0 (first-lies a x xs g) (first-inside a x xs g)
+  first_walks a x xs g = (f.law (record {})).sound s end a x g.good.0 (first_lies a x xs g) (first_inside a x xs g)
 
   -- past them all
-  pub all-walk : (a : ℕ) (xs : List f.Val) → Stand f s end a xs → many (walks f s end) (length xs) a ≡ To (a + length (encs f.enc xs))
+  pub all_walk : (a : ℕ) (xs : List f.Val) → Stand f s end a xs → many (walks f s end) (length xs) a ≡ To (a + length (encs f.enc xs))
   unfolding many
-  all-walk a [] g = ap To (omega arith)
-  all-walk a (x ∷ xs) g =
+  all_walk a [] g = ap To (omega arith)
+  all_walk a (x ∷ xs) g =
       let j : a + length (f.enc x) + length (encs f.enc xs) ≡ a + length (encs f.enc (x ∷ xs)) =
       omega (arith, length-append (f.enc x) (encs f.enc xs)) in
-      then_to _ _ (a + length (f.enc x)) _ (first_walks a x xs g) (all-walk (a + length (f.enc x)) xs (rest-stand a x xs g) ∙ ap To j)
+      then_to _ _ (a + length (f.enc x)) _ (first_walks a x xs g) (all_walk (a + length (f.enc x)) xs (rest_stand a x xs g) ∙ ap To j)
 
   -- of number i, where a walk past i of them comes, what is told of the place is what is told of the value
   module _ {A : Type 0} (answer : ℕ → A) (told : ℕ → f.Val → A) (absent : A)
       (same : (a : ℕ) (x : f.Val) → f.Ok (record {}) x → Lies (f.enc x) s a → a + length (f.enc x) ≤ end → answer a ≡ told a x) where
-    pub nth-told : (a : ℕ) (xs : List f.Val) (i : ℕ) → Stand f s end a xs → i < length xs
+    pub nth_told : (a : ℕ) (xs : List f.Val) (i : ℕ) → Stand f s end a xs → i < length xs
         → (b : ℕ) × ((many (walks f s end) i a ≡ To b) × (answer b ≡ nth_of f.enc told absent a xs i))
     unfolding many nth_of
-    nth-told a [] i g h = absurd (omega arith)
-    nth-told a (x ∷ xs) zero g h = (a, (refl, same a x g.good.0 (first-lies a x xs g) (first-inside a x xs g)))
-    nth-told a (x ∷ xs) (suc i) g h =
-        let u = nth-told (a + length (f.enc x)) xs i (rest-stand a x xs g) (omega arith) in
+    nth_told a [] i g h = absurd (omega arith)
+    nth_told a (x ∷ xs) zero g h = (a, (refl, same a x g.good.0 (first_lies a x xs g) (first_inside a x xs g)))
+    nth_told a (x ∷ xs) (suc i) g h =
+        let u = nth_told (a + length (f.enc x)) xs i (rest_stand a x xs g) (omega arith) in
         (u.0, (then_to _ _ (a + length (f.enc x)) _ (first_walks a x xs g) u.1.0, u.1.1))
 
-    pub nth-absent : (a : ℕ) (xs : List f.Val) (i : ℕ) → length xs ≤ i → nth_of f.enc told absent a xs i ≡ absent
+    pub nth_absent : (a : ℕ) (xs : List f.Val) (i : ℕ) → length xs ≤ i → nth_of f.enc told absent a xs i ≡ absent
     unfolding nth_of
-    nth-absent a [] i h = refl
-    nth-absent a (x ∷ xs) zero h = absurd (omega arith)
-    nth-absent a (x ∷ xs) (suc i) h = nth-absent (a + length (f.enc x)) xs i (omega arith)
+    nth_absent a [] i h = refl
+    nth_absent a (x ∷ xs) zero h = absurd (omega arith)
+    nth_absent a (x ∷ xs) (suc i) h = nth_absent (a + length (f.enc x)) xs i (omega arith)
 
 -- what is made of what is told
 pub nth_made : {X A B : Type 0} (g : A → B) (enc : X → List ℕ) (told : ℕ → X → A) (absent : A) (a : ℕ) (xs : List X) (i : ℕ)
@@ -78,10 +78,10 @@ nth_made g enc told absent a (x ∷ xs) (suc i) = nth_made g enc told absent (a 
 -- what is told of a value where it lies is what is said of it, wherever that is: so it is of number i
 module _ {X A : Type 0} (Ok : X → Type 0) (enc : X → List ℕ) (s : List ℕ) (told says : ℕ → X → A) (absent : A)
     (same : (a b : ℕ) (x : X) → Ok x → Lies (enc x) s a → told a x ≡ says b x) where
-  pub nth-said : (a b : ℕ) (xs : List X) (i : ℕ) → All Ok xs → Lies (encs enc xs) s a
+  pub nth_said : (a b : ℕ) (xs : List X) (i : ℕ) → All Ok xs → Lies (encs enc xs) s a
       → nth_of enc told absent a xs i ≡ nth_of enc says absent b xs i
   unfolding nth_of
-  nth-said a b [] i g l = refl
-  nth-said a b (x ∷ xs) zero g l = same a b x g.0 (lies_split (enc x) (encs enc xs) s a l).0
-  nth-said a b (x ∷ xs) (suc i) g l =
-      nth-said (a + length (enc x)) (b + length (enc x)) xs i g.1 (lies_split (enc x) (encs enc xs) s a l).1
+  nth_said a b [] i g l = refl
+  nth_said a b (x ∷ xs) zero g l = same a b x g.0 (lies_split (enc x) (encs enc xs) s a l).0
+  nth_said a b (x ∷ xs) (suc i) g l =
+      nth_said (a + length (enc x)) (b + length (enc x)) xs i g.1 (lies_split (enc x) (encs enc xs) s a l).1

@@ -12,7 +12,7 @@ use Rattle.bytes_at.specs.Inner.{Stands}
 use Rattle.format.specs.Repeats.{Bytes}
 use Rattle.format.specs.Laws.OfBytes.{part_bytes, part_length}
 use Rattle.format.specs.Formats.{Format, Filling}
-use Rattle.format.proofs.FormatLaws.{between, accepted, accepted-all}
+use Rattle.format.proofs.FormatLaws.{between, accepted, accepted_all}
 
 -- a container that lies within a section of bytes
 pub record Within (s : List ℕ) (end at : ℕ) : Type 0 where
@@ -26,17 +26,17 @@ module _ {C : Type 0} (f : Filling C) (c : C) where
       → Stands (f.walk c s e a) → Stands (f.walk c t d b)
   moved s t e a d b i j p w =
       let n = (f.law c).whole s e a w.0 w.1 in
-      let x = (accepted-all s e a i.ordered i.inside i.bytes f c).0 (w.1 ∙ ap To n) in
-      (d, (accepted-all t d b j.ordered j.inside j.bytes f c).1 (x.0, (x.1.0, sym p ∙ x.1.1)))
+      let x = (accepted_all s e a i.ordered i.inside i.bytes f c).0 (w.1 ∙ ap To n) in
+      (d, (accepted_all t d b j.ordered j.inside j.bytes f c).1 (x.0, (x.1.0, sym p ∙ x.1.1)))
 
-  pub part-within : (s : List ℕ) (e a : ℕ) → Within s e a → Within (between s a e) (e - a) 0
-  part-within s e a i =
+  pub part_within : (s : List ℕ) (e a : ℕ) → Within s e a → Within (between s a e) (e - a) 0
+  part_within s e a i =
       let o = i.ordered in
       let m = i.inside in
       record { ordered = omega arith; inside = omega (arith, part_length s (e - a) a (omega arith)); bytes = part_bytes s (e - a) a i.bytes }
 
-  part-part : (s : List ℕ) (e a : ℕ) → Within s e a → between (between s a e) 0 (e - a) ≡ between s a e
-  part-part s e a i =
+  part_part : (s : List ℕ) (e a : ℕ) → Within s e a → between (between s a e) 0 (e - a) ≡ between s a e
+  part_part s e a i =
       let o = i.ordered in
       let m = i.inside in
       take_all (e - a - 0) (between s a e) (omega (arith, part_length s (e - a) a (omega arith)))
@@ -44,8 +44,8 @@ module _ {C : Type 0} (f : Filling C) (c : C) where
   -- the container alone
   pub relocated : (s : List ℕ) (e a : ℕ) → Within s e a → Stands (f.walk c s e a) ↔ Stands (f.walk c (between s a e) (e - a) 0)
   relocated s e a i = (
-    moved s (between s a e) e a (e - a) 0 i (part-within s e a i) (sym (part-part s e a i)),
-    moved (between s a e) s (e - a) 0 e a (part-within s e a i) i (part-part s e a i),
+    moved s (between s a e) e a (e - a) 0 i (part_within s e a i) (sym (part_part s e a i)),
+    moved (between s a e) s (e - a) 0 e a (part_within s e a i) i (part_part s e a i),
   )
 
 -- a format that tells where it ends comes as far, wherever its bytes stand
@@ -62,7 +62,7 @@ pub own_bytes : {C : Type 0} (f : Filling C) (c : C) (t : List ℕ) → Bytes t
 own_bytes f c t z = (
   (λ w.
       let n = (f.law c).whole t (length t) 0 w.0 w.1 in
-      let u = (accepted-all t (length t) 0 (omega arith) (omega arith) z f c).0 (w.1 ∙ ap To n) in
+      let u = (accepted_all t (length t) 0 (omega arith) (omega arith) z f c).0 (w.1 ∙ ap To n) in
       (u.0, (u.1.0, sym (take_all (length t - 0) t (omega arith)) ∙ u.1.1))),
-  (λ u. (length t, (accepted-all t (length t) 0 (omega arith) (omega arith) z f c).1 (u.0, (u.1.0, take_all (length t - 0) t (omega arith) ∙ u.1.1)))),
+  (λ u. (length t, (accepted_all t (length t) 0 (omega arith) (omega arith) z f c).1 (u.0, (u.1.0, take_all (length t - 0) t (omega arith) ∙ u.1.1)))),
 )

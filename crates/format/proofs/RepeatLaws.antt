@@ -10,7 +10,7 @@ use borrow.Author.Tests.{lt-ltb, le-ltb}
 use Rattle.bytes_at.specs.declared.Walk.{Walk}
 use Rattle.bytes_at.specs.declared.Walk.TheVariants.{To, Bad}
 use Rattle.bytes_at.specs.Walks.{bits_to, fields_to, then, many, ends}
-use Rattle.bytes_at.proofs.WalkLaws.{seq_bad, seq_to, bits-on, bits-past}
+use Rattle.bytes_at.proofs.WalkLaws.{seq_bad, seq_to, bits_on, bits_past}
 use Rattle.format.specs.Lawful.{unto, total}
 use Rattle.format.specs.Laws.OfBytes.{fields_fit}
 
@@ -23,8 +23,8 @@ total_eights (suc m) = omega (arith, total_eights m)
 bits_run : (m p at end : ℕ) → p ≡ 8 * at → at ≤ end → end < at + m → Bad end ≡ bits_to (replicate m 8) p end
 bits_run zero p at end e h k = absurd (omega arith)
 bits_run (suc m) p at end e h k = ⊎_elim
-    (λ t. bits-past 8 (replicate m 8) p end end (omega arith) (omega arith))
-    (λ t. bits-on 8 (replicate m 8) p end (omega arith) (bits_run m (p + 8) (at + 1) end (omega arith) (omega arith) (omega arith)))
+    (λ t. bits_past 8 (replicate m 8) p end end (omega arith) (omega arith))
+    (λ t. bits_on 8 (replicate m 8) p end (omega arith) (bits_run m (p + 8) (at + 1) end (omega arith) (omega arith) (omega arith)))
     (eq-zero-or-pos (end - at))
 
 row_past : (m at end : ℕ) → at ≤ end → end < at + m → Bad end ≡ fields_to (replicate m 8) at end
@@ -55,13 +55,13 @@ module _ (m end : ℕ) where
 -- ---- until the container's end, for any number f of steps that is enough
 module _ (p : ℕ → ℕ → Walk) where
   -- no byte is left
-  pub list-none : (f end at : ℕ) → end ≤ at → ends end at ≡ unto p f end at
+  pub list_none : (f end at : ℕ) → end ≤ at → ends end at ≡ unto p f end at
   unfolding unto
-  list-none zero end at h = refl
-  list-none (suc f) end at h = rw (le-ltb at end h)
+  list_none zero end at h = refl
+  list_none (suc f) end at h = rw (le-ltb at end h)
 
   -- a first one and the rest
-  pub list-first : (f end at : ℕ) → at < end → end ≤ at + f → then (p end at) (unto p (f - 1) end) ≡ unto p f end at
+  pub list_first : (f end at : ℕ) → at < end → end ≤ at + f → then (p end at) (unto p (f - 1) end) ≡ unto p f end at
   unfolding unto
-  list-first zero end at h k = absurd (omega arith)
-  list-first (suc f) end at h k = rw (lt-ltb at end h, sub-one)
+  list_first zero end at h k = absurd (omega arith)
+  list_first (suc f) end at h k = rw (lt-ltb at end h, sub-one)

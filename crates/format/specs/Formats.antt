@@ -13,9 +13,9 @@ use Rattle.format.specs.Lawful.{Walker, Lies, Lawful, Fills, unto, total}
 use Rattle.format.specs.Repeats.{Bytes, All, encs, OkOpt, enc_opt, OkSum, enc_sum}
 use Rattle.format.specs.Values.{One}
 use Rattle.format.specs.Laws.OfBytes.{fields_law, raw_law, lies_byte}
-use Rattle.format.specs.Laws.OfHeads.{head-law, seq-law, via-law}
-use Rattle.format.specs.Laws.OfContainers.{filled-law, exact-law, before-law, under-law, any_law, opt-law, choice-law}
-use Rattle.format.specs.Laws.OfRepeats.{times-law, some-law, list_law}
+use Rattle.format.specs.Laws.OfHeads.{head_law, seq_law, via_law}
+use Rattle.format.specs.Laws.OfContainers.{filled_law, exact_law, before_law, under_law, any_law, opt_law, choice_law}
+use Rattle.format.specs.Laws.OfRepeats.{times_law, some_law, list_law}
 
 -- ---- what a format is
 
@@ -94,7 +94,7 @@ head ns k whole r f = record {
   Ok = λ u x. ((length x.0 ≡ k) × Bytes x.0) × f.Ok (r.read x.0 k) x.1;
   enc = λ x. x.0 ++ f.enc x.1;
   walk = λ u s end at. then (fields_to ns at end) (λ b. f.walk (r.read s b) s end b);
-  law = λ u. head-law ns k whole r.read r.same f.law;
+  law = λ u. head_law ns k whole r.read r.same f.law;
 }
 
 -- ---- containers
@@ -115,7 +115,7 @@ filled back f = record {
   Ok = λ n x. (length (f.enc x) ≡ n) × f.Ok (record {}) x;
   enc = f.enc;
   walk = λ n s end at. then (skip_to back at n end) (λ e. f.walk (record {}) s e at);
-  law = λ n. filled-law back n (f.law (record {}));
+  law = λ n. filled_law back n (f.law (record {}));
 }
 
 -- the same for a format of which something is told beside the length
@@ -125,7 +125,7 @@ filled_by back f = record {
   Ok = λ n x. (length (f.enc x) ≡ n.0) × f.Ok n.1 x;
   enc = f.enc;
   walk = λ n s end at. then (skip_to back at n.0 end) (λ e. f.walk n.1 s e at);
-  law = λ n. filled-law back n.0 (f.law n.1);
+  law = λ n. filled_law back n.0 (f.law n.1);
 }
 
 -- ---- one after the other, and several times
@@ -136,7 +136,7 @@ seq f g = record {
   Ok = λ u x. f.Ok u x.0 × g.Ok u x.1;
   enc = λ x. f.enc x.0 ++ g.enc x.1;
   walk = λ u s end at. then (f.walk u s end at) (g.walk u s end);
-  law = λ u. seq-law (f.law u) (g.law u);
+  law = λ u. seq_law (f.law u) (g.law u);
 }
 
 -- as often as is told
@@ -146,7 +146,7 @@ times f = record {
   Ok = λ n xs. (length xs ≡ n) × All (f.Ok (record {})) xs;
   enc = encs f.enc;
   walk = λ n s end at. many (f.walk (record {}) s end) n at;
-  law = times-law (f.law (record {}));
+  law = times_law (f.law (record {}));
 }
 
 -- as often as is told by a count `back` bytes before, and not 0 times
@@ -156,7 +156,7 @@ one_or_more back f = record {
   Ok = λ n xs. (0 < n) × ((length xs ≡ n) × All (f.Ok (record {})) xs);
   enc = encs f.enc;
   walk = λ n s end at. pick (eqb n 0) (Bad (at - back)) (many (f.walk (record {}) s end) n at);
-  law = λ n. some-law back n (times-law (f.law (record {})) n);
+  law = λ n. some_law back n (times_law (f.law (record {})) n);
 }
 
 -- ---- what fills a container
@@ -167,7 +167,7 @@ exact f = record {
   Ok = f.Ok;
   enc = f.enc;
   walk = λ u s end at. then (f.walk u s end at) (ends end);
-  law = λ u. exact-law (f.law u);
+  law = λ u. exact_law (f.law u);
 }
 
 -- a format, and one that takes what is left of the container
@@ -177,7 +177,7 @@ before f g = record {
   Ok = λ u x. f.Ok u x.0 × g.Ok u x.1;
   enc = λ x. f.enc x.0 ++ g.enc x.1;
   walk = λ u s end at. then (f.walk u s end at) (g.walk u s end);
-  law = λ u. before-law (f.law u) (g.law u);
+  law = λ u. before_law (f.law u) (g.law u);
 }
 
 -- whatever bytes there are
@@ -191,7 +191,7 @@ choice t f g = record {
   Ok = λ c. OkSum (t c) (f.Ok (record {})) (g.Ok (record {}));
   enc = enc_sum f.enc g.enc;
   walk = λ c s end at. pick (t c) (f.walk (record {}) s end at) (g.walk (record {}) s end at);
-  law = λ c. choice-law (t c) (f.law (record {})) (g.law (record {}));
+  law = λ c. choice_law (t c) (f.law (record {})) (g.law (record {}));
 }
 
 -- no value of it is empty
@@ -205,7 +205,7 @@ opt f full = record {
   Ok = λ u. OkOpt (f.Ok u);
   enc = enc_opt f.enc;
   walk = λ u s end at. pick (eqb at end) (To at) ((exact f).walk u s end at);
-  law = λ u. opt-law ((exact f).law u) full;
+  law = λ u. opt_law ((exact f).law u) full;
 }
 
 -- as many as fill the container
@@ -233,7 +233,7 @@ via f {Y} {OkY} r = record {
   Ok = λ u. OkY;
   enc = λ y. f.enc (r.to y);
   walk = f.walk;
-  law = λ u. via-law (f.law u) r.to r.good r.onto r.inj;
+  law = λ u. via_law (f.law u) r.to r.good r.onto r.inj;
 }
 
 -- the same bytes and walk, and as values those of a record
@@ -254,7 +254,7 @@ under_all f {Y} to from a b = record {
   Ok = λ u y. f.Ok u (to y);
   enc = λ y. f.enc (to y);
   walk = f.walk;
-  law = λ u. under-law (f.law u) to from a b;
+  law = λ u. under_law (f.law u) to from a b;
 }
 
 -- the walk of a format of which nothing is told: what code computes

@@ -9,7 +9,7 @@ use Rattle.format.specs.Repeats.{Bytes, All, encs, OkOpt, enc_opt, OkSum, enc_su
 use Rattle.format.specs.Values.{One, Field, bits, reserved, width, Vals, Fit, number, bytes_of, head_bytes}
 use Rattle.format.specs.Formats.{Format, Filling, Full, seq, exact, before, any_bytes, opt, list, choice, under, under_all, walks_all}
 use Rattle.format.specs.Named.{named}
-use Rattle.format.specs.Told.{raws, sizing, sized8, counting, counted8, counted16, few, fewNotNone, not_none, sized12, sized10, tagged}
+use Rattle.format.specs.Told.{raws, sizing, sized8, counting, counted8, counted16, few, few_not_none, not_none, sized12, sized10, tagged}
 
 -- ---- meanings
 -- which values are well formed, and the bytes of a value
@@ -81,7 +81,7 @@ pub record Language : Type 1 where
   -- fields fs and a last of n bits, one byte together, and so many f; the same, and not none
   pub of_few : (fs : List Field) (n : ℕ) (w : width fs + n ≡ 8) (f : Format One) → meaning (few fs n w f) ≈ counted fs n 1 (several (meaning f))
   pub of_few_not_none : (fs : List Field) (n : ℕ) (w : width fs + n ≡ 8) (f : Format One)
-      → meaning (fewNotNone fs n w f) ≈ counted fs n 1 (not_empty (several (meaning f)))
+      → meaning (few_not_none fs n w f) ≈ counted fs n 1 (not_empty (several (meaning f)))
   -- a length of 8 bits, or of 12 after four reserved bits, or of 10 after six, and what fills so many bytes
   pub of_sized8 : (f : Filling One) → meaning (sized8 f) ≈ sized [] 8 1 (filling f)
   pub of_sized12 : (f : Filling One) → meaning (sized12 f) ≈ sized (reserved 4 ∷ []) 12 2 (filling f)

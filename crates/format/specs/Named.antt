@@ -7,7 +7,7 @@ use Rattle.format.specs.Repeats.{Bytes}
 use Rattle.format.specs.Formats.{Format, Recast, fields, via}
 use Rattle.format.specs.Values.{One, Field, width, Vals, Fit, number, bytes_of}
 use Rattle.format.specs.Heads.{steps, vals_at}
-use Rattle.format.specs.Laws.OfNamed.{below, vals-there, vals-back}
+use Rattle.format.specs.Laws.OfNamed.{below, vals_there, vals_back}
 use Rattle.format.specs.Laws.OfValues.{steps_width, vals_fit, bytes_length, bytes_bytes}
 
 -- ---- fields, together k bytes
@@ -16,10 +16,10 @@ module _ (fs : List Field) (k : ℕ) (whole : width fs ≡ 8 * k) where
   of_fields = record {
     to = λ v. bytes_of k (number fs v);
     good = λ v o. (bytes_length k (number fs v), bytes_bytes k (number fs v) (below fs k whole v o));
-    onto = λ x o. (vals_at fs x 0 0, (vals_fit fs x 0 0, vals-back fs k whole x o.0 o.1));
+    onto = λ x o. (vals_at fs x 0 0, (vals_fit fs x 0 0, vals_back fs k whole x o.0 o.1));
     inj = λ v w o r e.
-        sym (vals-there fs k whole _ 0 v o (take-length (bytes_of k (number fs v)))) ∙ ap (λ x. vals_at fs x 0 0) e
-        ∙ vals-there fs k whole _ 0 w r (take-length (bytes_of k (number fs w)));
+        sym (vals_there fs k whole _ 0 v o (take-length (bytes_of k (number fs v)))) ∙ ap (λ x. vals_at fs x 0 0) e
+        ∙ vals_there fs k whole _ 0 w r (take-length (bytes_of k (number fs w)));
   }
 
   -- their values; their bytes; the walk past them

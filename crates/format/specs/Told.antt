@@ -10,29 +10,29 @@ use Rattle.bytes_at.proofs.BitLaws.{word_bits}
 use Rattle.format.specs.Values.{One, Field, bits, reserved, width, Vals, head_bytes}
 use Rattle.format.specs.Heads.{steps, vals_at, Tells, OkTold}
 use Rattle.format.specs.Laws.OfValues.{bytes_length, bytes_bytes}
-use Rattle.format.specs.Laws.OfTold.{steps-whole, head-below, told-good, told-onto, told-once, last_tells, low16_tells, low8_tells, tag_tells}
+use Rattle.format.specs.Laws.OfTold.{steps_whole, head_below, told_good, told_onto, told_once, last_tells, low16_tells, low8_tells, tag_tells}
 
 -- ---- the head and what it tells of
 module _ {C : Type 0} (fs : List Field) (n k : ℕ) (whole : width fs + n ≡ 8 * k) (r : Reader k C) (c : Vals fs → ℕ → C)
     (tells : Tells fs n k r c) (f : Format C) (tally : f.Val → ℕ) (is : (v : Vals fs) (m : ℕ) (x : f.Val) → f.Ok (c v m) x → tally x ≡ m) where
-  abbrev pub of-told : Recast (List ℕ × f.Val) (λ x. ((length x.0 ≡ k) × Bytes x.0) × f.Ok (r.read x.0 k) x.1) (Vals fs × f.Val) (OkTold fs n c f tally)
-  of-told = record {
+  abbrev pub of_told : Recast (List ℕ × f.Val) (λ x. ((length x.0 ≡ k) × Bytes x.0) × f.Ok (r.read x.0 k) x.1) (Vals fs × f.Val) (OkTold fs n c f tally)
+  of_told = record {
     to = λ y. (head_bytes fs n k y.0 (tally y.1), y.1);
     good = λ y o. (
-      (bytes_length k _, bytes_bytes k _ (head-below fs n k whole y.0 (tally y.1) o.0 o.1.0)),
-      told-good fs n k whole r c tells f tally is y.0 y.1 o,
+      (bytes_length k _, bytes_bytes k _ (head_below fs n k whole y.0 (tally y.1) o.0 o.1.0)),
+      told_good fs n k whole r c tells f tally is y.0 y.1 o,
     );
     onto = λ x o.
-        let u = told-onto fs n k whole r c tells f tally is x.0 x.1 o.0.0 o.0.1 o.1 in
+        let u = told_onto fs n k whole r c tells f tally is x.0 x.1 o.0.0 o.0.1 o.1 in
         ((vals_at fs x.0 0 0, x.1), (u.0, λ i. (u.1 i, x.1)));
     inj = λ y z o w e.
         let q = ap (λ (p : List ℕ × f.Val). p.1) e in
-        let p = told-once fs n k whole r c tells f tally is y.0 z.0 y.1 z.1 o w (ap (λ (p : List ℕ × f.Val). p.0) e) in
+        let p = told_once fs n k whole r c tells f tally is y.0 z.0 y.1 z.1 o w (ap (λ (p : List ℕ × f.Val). p.0) e) in
         λ i. (p i, q i);
   }
 
   abbrev pub told : Format One
-  told = via (head (steps (fs ++ (bits n ∷ []))) k (steps-whole fs n k whole) r f) of-told
+  told = via (head (steps (fs ++ (bits n ∷ []))) k (steps_whole fs n k whole) r f) of_told
 
 -- ---- lengths and counts of 8 bits after fields, together k + 1 bytes
 module _ (fs : List Field) (k : ℕ) (whole : width fs + 8 ≡ 8 * suc k) where
@@ -54,8 +54,8 @@ module _ (fs : List Field) (n : ℕ) (whole : width fs + n ≡ 8) where
   few f = told fs n 1 whole (through (λ x. x % 2 ^ n) last_byte) (λ v m. m) (low8_tells fs 0 (width fs) n whole (omega arith)) (times f) (λ x. length x)
       (λ v m x o. o.0)
 
-  abbrev pub fewNotNone : Format One → Format One
-  fewNotNone f = told fs n 1 whole (through (λ x. x % 2 ^ n) last_byte) (λ v m. m) (low8_tells fs 0 (width fs) n whole (omega arith)) (one_or_more 1 f)
+  abbrev pub few_not_none : Format One → Format One
+  few_not_none f = told fs n 1 whole (through (λ x. x % 2 ^ n) last_byte) (λ v m. m) (low8_tells fs 0 (width fs) n whole (omega arith)) (one_or_more 1 f)
       (λ x. length x) (λ v m x o. o.1.0)
 
 -- a count of 8 bits that may not be 0, and as many

@@ -9,10 +9,10 @@ use Rattle.logic.proofs.LoopLaws.{and_left}
 use Rattle.refusal.specs.Outcomes.{Outcome, resulted}
 use Rattle.refusal.specs.Outputs.{counted}
 use Rattle.refusal.proofs.OutcomeLaws.{after_is, same_result, went_on}
-use Rattle.refusal.proofs.TestLaws.{passed-le}
+use Rattle.refusal.proofs.TestLaws.{passed_le}
 use Rattle.kind.specs.declared.Kind.{Kind}
 use Rattle.kind.specs.declared.Kind.TheVariants.{Rrt, Eit, Ett}
-use Rattle.kind.specs.Kinds.{only_of, limits_of}
+use Rattle.kind.specs.Kinds.{onlyOf, limitsOf}
 use Rattle.format.specs.Repeats.{Bytes}
 use Rattle.rrt.specs.Fields.{dimension_end}
 use Rattle.section.specs.Sections.{section_by}
@@ -44,45 +44,45 @@ module _ (s : List ℕ) (bytes : Bytes s) where
   -- a count for which there is room
   room_whole : (w n room : ℕ) → n < 4294967296 → Whole one_number (room_for_rows w n room)
   unfolding room_for_rows
-  room_whole w n room h a e = told_whole one_number n a (passed-le 12 (w * n) room _ a e).1 (h, record {})
+  room_whole w n room h a e = told_whole one_number n a (passed_le 12 (w * n) room _ a e).1 (h, record {})
 
   rows_whole : (r : Row) (room : ℕ) → Whole one_number (rows_of r s room)
   unfolding rows_of rows_in
   rows_whole r room a e =
-      let p = after_is (section_by (only_of (kind_of_entry (entry_for r))) s) _ a e in
+      let p = after_is (section_by (onlyOf (kind_of_entry (entry_for r))) s) _ a e in
       room_whole (row_width r) (entry_count (entry_for r) s) room (omega (arith, count_small (entry_for r))) a p.1.1
 
   -- a dimension has at most fifteen values
-  values-small : (n d : ℕ) → value_count s n d ≤ 15 * n
+  values_small : (n d : ℕ) → value_count s n d ≤ 15 * n
   unfolding value_count
-  values-small zero d = omega arith
-  values-small (suc n) d = omega (arith, values-small n (dimension_end s d))
+  values_small zero d = omega arith
+  values_small (suc n) d = omega (arith, values_small n (dimension_end s d))
 
-  values-whole : (room : ℕ) → Whole one_number (value_rows_of s room)
+  values_whole : (room : ℕ) → Whole one_number (value_rows_of s room)
   unfolding value_rows_of value_rows_in
-  values-whole room a e =
-      let p = after_is (section_by (only_of Rrt) s) _ a e in
-      room_whole 6 _ room (omega (arith, values-small (entry_count Dimension s) (first_entry Dimension s), count_small Dimension)) a p.1.1
+  values_whole room a e =
+      let p = after_is (section_by (onlyOf Rrt) s) _ a e in
+      room_whole 6 _ room (omega (arith, values_small (entry_count Dimension s) (first_entry Dimension s), count_small Dimension)) a p.1.1
 
-  titles-whole : (rows units : ℕ) → Whole counts_numbers (titles.titles_of s rows units)
+  titles_whole : (rows units : ℕ) → Whole counts_numbers (titles.titles_of s rows units)
   unfolding titles.titles_of titles.titles_in titles.room_for_titles
-  titles-whole rows units a e =
-      let p = after_is (section_by (only_of Eit) s) _ a e in
-      let q = passed-le 12 (12 * titles.event_count s) rows _ a p.1.1 in
-      let t = passed-le 12 (length (titles.units_from s (titles.event_count s) titles.first_event)) units _ a q.1 in
+  titles_whole rows units a e =
+      let p = after_is (section_by (onlyOf Eit) s) _ a e in
+      let q = passed_le 12 (12 * titles.event_count s) rows _ a p.1.1 in
+      let t = passed_le 12 (length (titles.units_from s (titles.event_count s) titles.first_event)) units _ a q.1 in
       let n = judged_size Eit s p.0 p.1.0 in
       let few = units_few s (titles.event_count s) titles.first_event (judged_events s p.0 p.1.0) in
       told_whole counts_numbers _ a t.1 (omega (arith, bytes 9), (omega (arith, n, few), record {}))
 
   pub counts_whole : CountsWhole s
-  counts_whole = record { rows = rows_whole; values = values-whole; titles = titles-whole }
+  counts_whole = record { rows = rows_whole; values = values_whole; titles = titles_whole }
 
 -- ---- what is written
 largest_whole : (k : Kind) (room : ℕ) (bytes : List ℕ) (s : List ℕ) → allowed k room bytes ≡ resulted s → length s ≤ 4096
 unfolding allowed length_fits
 largest_whole k room bytes s e =
     let p = went_on 24 _ (resulted bytes) s e in
-    let n = leb-true (length bytes) ((limits_of k).largest + 3) (and_left _ _ p.0) in
+    let n = leb-true (length bytes) ((limitsOf k).largest + 3) (and_left _ _ p.0) in
     let m = largest_small k in
     rw (← same_result bytes s p.1) (omega arith)
 

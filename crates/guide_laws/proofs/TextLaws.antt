@@ -9,8 +9,8 @@ use lib.ListN.{length, take, drop, length-take, length-drop}
 use Rattle.logic.specs.Choices.{if_eq}
 use Rattle.refusal.specs.Outcomes.{Outcome, refused, resulted}
 use Rattle.refusal.proofs.OutcomeLaws.{after_is, same_result, not_both}
-use Rattle.refusal.proofs.TestLaws.{passed-le}
-use Rattle.kind.specs.Kinds.{only_of}
+use Rattle.refusal.proofs.TestLaws.{passed_le}
+use Rattle.kind.specs.Kinds.{onlyOf}
 use Rattle.bytes_at.specs.Fields.{byte_at}
 use Rattle.format.specs.Repeats.{Bytes}
 use Rattle.format.specs.Formats.{walks_all}
@@ -23,7 +23,7 @@ use Rattle.text.specs.Strings.{string_count, string_at, string_replaced, string_
 use Rattle.text.specs.Replaced.{told_from}
 use Rattle.text.specs.Texts.{of_field, fitting, field_count, field_units, field_replaced, field_heading}
 use Rattle.text.proofs.AmountLaws.{none_joined}
-use Rattle.text.proofs.FewLaws.{few-units}
+use Rattle.text.proofs.FewLaws.{few_units}
 use Rattle.section.specs.Sections.{section_by}
 use Rattle.section_text.specs.declared.field.Which.{Which}
 use Rattle.section_text.specs.Fields.{kind_for, field_of}
@@ -61,7 +61,7 @@ fitted : (room : ℕ) (x : Outcome (List ℕ)) (us : List ℕ) → fitting room 
 unfolding fitting
 fitted room x us e =
     let p = after_is x _ us e in
-    let q = passed-le 12 (length p.0) room _ us p.1.1 in
+    let q = passed_le 12 (length p.0) room _ us p.1.1 in
     rw (← same_result p.0 us q.1) p.1.0
 
 -- an amount of few units, none of which stand for a replaced segment
@@ -74,15 +74,15 @@ amount_whole n most x z h few a e =
 
 -- ---- the strings of bytes that a text stands in
 module _ (f : List ℕ) (bytes : Bytes f) where
-  count-whole : Whole one_number (resulted (string_count f (length f) 0))
+  count_whole : Whole one_number (resulted (string_count f (length f) 0))
   unfolding string_count if_eq
-  count-whole n e =
+  count_whole n e =
       let c = picked (λ (m : ℕ). m < 256) (eqb 0 (length f)) 0 (byte_at f 0) (omega arith) (bytes 0) in
       told_whole one_number _ n e (omega (arith, c), record {})
 
-  heading-whole : (k : ℕ) → Whole heading_numbers (string_heading f (length f) 0 k)
+  heading_whole : (k : ℕ) → Whole heading_numbers (string_heading f (length f) 0 k)
   unfolding string_heading
-  heading-whole k h e =
+  heading_whole k h e =
       let p = after_is (string_at f (length f) 0 k) _ h e in
       let b = p.0 in
       told_whole heading_numbers (heading_before f b) h p.1.1
@@ -94,18 +94,18 @@ unfolding of_field
 of_field_lem f x a e = (after_is (standing (walks_all text f (length f) 0)) _ a e).1.1
 
 module _ (f : List ℕ) (bytes : Bytes f) (low : Short f) where
-  field-units : (k : ℕ) (us : List ℕ) → field_units f k ≡ resulted us → length us ≤ 8 * length f
+  field_units_lem : (k : ℕ) (us : List ℕ) → field_units f k ≡ resulted us → length us ≤ 8 * length f
   unfolding field_units
-  field-units k us e = omega (arith, few-units f (length f) 0 k us (of_field_lem f _ us e))
+  field_units_lem k us e = omega (arith, few_units f (length f) 0 k us (of_field_lem f _ us e))
 
-  pub fields-whole : FieldWhole f
+  pub fields_whole : FieldWhole f
   unfolding field_count field_heading
-  fields-whole = record {
-    count = λ n e. count-whole f bytes n (of_field_lem f _ n e);
-    heading = λ k h e. heading-whole f bytes k h (of_field_lem f _ h e);
-    units = λ k. amount_whole (field_replaced f k) (8 * length f) _ (replaced_none f (length f) 0 k) (omega arith) (field-units k);
+  fields_whole = record {
+    count = λ n e. count_whole f bytes n (of_field_lem f _ n e);
+    heading = λ k h e. heading_whole f bytes k h (of_field_lem f _ h e);
+    units = λ k. amount_whole (field_replaced f k) (8 * length f) _ (replaced_none f (length f) 0 k) (omega arith) (field_units_lem k);
     text = λ k room. amount_whole (field_replaced f k) (8 * length f) _ (replaced_none f (length f) 0 k) (omega arith)
-        (λ us e. field-units k us (fitted room (field_units f k) us e));
+        (λ us e. field_units_lem k us (fitted room (field_units f k) us e));
   }
 
 -- ---- of a text of a section
@@ -122,28 +122,28 @@ module _ (s : List ℕ) (bytes : Bytes s) where
   unfolding text_units field_of
   text_units_lem w k us e =
       let p = after_is (field_of s w) _ us e in
-      let h = after_is (section_by (only_of (kind_for w)) s) _ p.0 p.1.0 in
+      let h = after_is (section_by (onlyOf (kind_for w)) s) _ p.0 p.1.0 in
       let n = judged_size (kind_for w) s h.0 h.1.0 in
       let l : length (bytes_in s p.0) ≤ length s = simp (length-take, length-drop) (omega arith) in
-      omega (arith, n, l, few-units (bytes_in s p.0) (length (bytes_in s p.0)) 0 k us p.1.1)
+      omega (arith, n, l, few_units (bytes_in s p.0) (length (bytes_in s p.0)) 0 k us p.1.1)
 
-  text-replaced : (w : Which) (k : ℕ) → text_replaced s w k ≡ 0
+  text_replaced_lem : (w : Which) (k : ℕ) → text_replaced s w k ≡ 0
   unfolding text_replaced
-  text-replaced w k = from_none (field_of s w) _ (λ p. replaced_none (bytes_in s p) (length (bytes_in s p)) 0 k)
+  text_replaced_lem w k = from_none (field_of s w) _ (λ p. replaced_none (bytes_in s p) (length (bytes_in s p)) 0 k)
 
-  text-count : (w : Which) → Whole one_number (text_count s w)
+  text_count_lem : (w : Which) → Whole one_number (text_count s w)
   unfolding text_count
-  text-count w n e = let p = after_is (field_of s w) _ n e in count-whole (bytes_in s p.0) (part_bytes p.0) n p.1.1
+  text_count_lem w n e = let p = after_is (field_of s w) _ n e in count_whole (bytes_in s p.0) (part_bytes p.0) n p.1.1
 
-  text-heading : (w : Which) (k : ℕ) → Whole heading_numbers (text_heading s w k)
+  text_heading_lem : (w : Which) (k : ℕ) → Whole heading_numbers (text_heading s w k)
   unfolding text_heading
-  text-heading w k h e = let p = after_is (field_of s w) _ h e in heading-whole (bytes_in s p.0) (part_bytes p.0) k h p.1.1
+  text_heading_lem w k h e = let p = after_is (field_of s w) _ h e in heading_whole (bytes_in s p.0) (part_bytes p.0) k h p.1.1
 
-  pub texts-whole : (q : List ℕ) → TextWhole s q
-  texts-whole q = record {
-    count = of_text_lem one_number (which_of q) _ text-count;
-    heading = of_text_lem heading_numbers (which_of q) _ (λ w. text-heading w (string_of q));
-    units = of_text_lem amount_numbers (which_of q) _ (λ w. amount_whole _ 32768 _ (text-replaced w (string_of q)) (omega arith) (text_units_lem w (string_of q)));
-    text = λ room. of_text_lem amount_numbers (which_of q) _ (λ w. amount_whole _ 32768 _ (text-replaced w (string_of q)) (omega arith)
+  pub texts_whole : (q : List ℕ) → TextWhole s q
+  texts_whole q = record {
+    count = of_text_lem one_number (which_of q) _ text_count_lem;
+    heading = of_text_lem heading_numbers (which_of q) _ (λ w. text_heading_lem w (string_of q));
+    units = of_text_lem amount_numbers (which_of q) _ (λ w. amount_whole _ 32768 _ (text_replaced_lem w (string_of q)) (omega arith) (text_units_lem w (string_of q)));
+    text = λ room. of_text_lem amount_numbers (which_of q) _ (λ w. amount_whole _ 32768 _ (text_replaced_lem w (string_of q)) (omega arith)
         (λ us e. text_units_lem w (string_of q) us (fitted room (text_units s w (string_of q)) us e)));
   }

@@ -10,7 +10,7 @@ use Rattle.refusal.specs.Outcomes.{Outcome, resulted}
 use Rattle.refusal.proofs.OutcomeLaws.{after_is, went_on}
 use Rattle.kind.specs.declared.Kind.{Kind}
 use Rattle.kind.specs.declared.Kind.TheVariants.{Mgt, Tvct, Rrt, Eit, Ett}
-use Rattle.kind.specs.Kinds.{only_of, kind_of, table_id_of}
+use Rattle.kind.specs.Kinds.{onlyOf, kind_of, tableIdOf}
 use Rattle.bytes_at.specs.Fields.{byte_at}
 use Rattle.bytes_at.specs.Bits.{bits_at}
 use Rattle.format.specs.Repeats.{Bytes}
@@ -45,12 +45,12 @@ use Rattle.telling.specs.Sections.{header_numbers}
 use Rattle.telling.specs.Ratings.{rating_numbers, descriptor_numbers, text_numbers}
 use Rattle.telling.specs.Tables.{mgt_numbers, defined_numbers, tvct_numbers, channel_numbers, rrt_numbers, dimension_numbers, value_numbers, eit_numbers, event_numbers, ett_numbers, title_sort, title_place_told}
 use Rattle.guide_laws.specs.Whole.{Whole, TablesWhole, EventWhole, ListWhole, ToldAsTheyAre, Short}
-use Rattle.guide_laws.proofs.AskedLaws.{rating-small, descriptor-small, text-small-in, or_none_whole}
-use Rattle.guide_laws.proofs.TextLaws.{fields-whole, texts-whole}
+use Rattle.guide_laws.proofs.AskedLaws.{rating_small, descriptor_small, text_small_in, or_none_whole}
+use Rattle.guide_laws.proofs.TextLaws.{fields_whole, texts_whole}
 use Rattle.guide_laws.proofs.CountLaws.{counts_whole, written_whole}
-use Rattle.guide_laws.proofs.SmallLaws.{Small, small_whole, told_whole, picked, small_join, word_small, judged_size, spot_small, rest_small, value_small, part_small, list12_small, list10_small, text-small, text-end}
+use Rattle.guide_laws.proofs.SmallLaws.{Small, small_whole, told_whole, picked, small_join, word_small, judged_size, spot_small, rest_small, value_small, part_small, list12_small, list10_small, text_small, text_end_lem}
 
-table_id_small : (k : Kind) → table_id_of k < 256
+table_id_small : (k : Kind) → tableIdOf k < 256
 table_id_small Mgt = omega arith
 table_id_small Tvct = omega arith
 table_id_small Rrt = omega arith
@@ -58,30 +58,30 @@ table_id_small Eit = omega arith
 table_id_small Ett = omega arith
 
 module _ (s : List ℕ) (bytes : Bytes s) where
-  header-small : (k : Kind) → Small (header_numbers (header_in k s))
-  header-small k =
+  header_small : (k : Kind) → Small (header_numbers (header_in k s))
+  header_small k =
       let t = table_id_small k in
       (omega arith, (omega (arith, word_small s bytes 3), (omega arith, (omega arith, (omega (arith, bytes 6), (omega (arith, bytes 7), record {}))))))
 
-  header-whole : Whole header_numbers (section_by kind_of s)
-  header-whole h e =
+  header_whole : Whole header_numbers (section_by kind_of s)
+  header_whole h e =
       let p = any_header_passed s h (section_header kind_of s h e) in
-      subst (λ x. map noted (header_numbers x) ≡ header_numbers x) (sym p.1.fields) (small_whole _ (header-small p.0))
+      subst (λ x. map noted (header_numbers x) ≡ header_numbers x) (sym p.1.fields) (small_whole _ (header_small p.0))
 
   -- the extension of a section of one kind
-  extension-small : (k : Kind) (h : Header) → section_by (only_of k) s ≡ resulted h → h.extension < 65536
-  extension-small k h e = rw (section_sound k s h e).0.fields (word_small s bytes 3)
+  extension_small : (k : Kind) (h : Header) → section_by (onlyOf k) s ≡ resulted h → h.extension < 65536
+  extension_small k h e = rw (section_sound k s h e).0.fields (word_small s bytes 3)
 
-  mgt-whole : Whole mgt_numbers (mgts.fields_of s)
+  mgt_whole : Whole mgt_numbers (mgts.fields_of s)
   unfolding mgts.fields_of mgts.fields_in mgt_numbers
-  mgt-whole t e =
-      let p = after_is (section_by (only_of Mgt) s) _ t e in
+  mgt_whole t e =
+      let p = after_is (section_by (onlyOf Mgt) s) _ t e in
       let q = after_is (rest_in Table s) _ t p.1.1 in
       told_whole mgt_numbers _ t q.1.1 (omega (arith, word_small s bytes 9), list12_small s q.0 (omega (arith, rest_small Table s p.0 q.0 p.1.0 q.1.0)))
 
-  defined-small : (a : ℕ) → a ≤ 4096 → Small (defined_numbers (mgt.defined_at s a))
+  defined_small : (a : ℕ) → a ≤ 4096 → Small (defined_numbers (mgt.defined_at s a))
   unfolding defined_numbers mgt.defined_at mgt.descriptors_at
-  defined-small a h = (
+  defined_small a h = (
     omega (arith, bits_lt s (8 * a + 0) 16),
     (
       omega (arith, bits_lt s (8 * a + 19) 13),
@@ -92,23 +92,23 @@ module _ (s : List ℕ) (bytes : Bytes s) where
     ),
   )
 
-  defined-whole : (i : ℕ) → Whole defined_numbers (mgts.entry_of s i)
+  defined_whole : (i : ℕ) → Whole defined_numbers (mgts.entry_of s i)
   unfolding mgts.entry_of
-  defined-whole i d e =
+  defined_whole i d e =
       let p = after_is (spot_of Table s i) _ d e in
-      told_whole defined_numbers (mgt.defined_at s p.0) d p.1.1 (defined-small p.0 (spot_small Table s i p.0 p.1.0))
+      told_whole defined_numbers (mgt.defined_at s p.0) d p.1.1 (defined_small p.0 (spot_small Table s i p.0 p.1.0))
 
-  tvct-whole : Whole tvct_numbers (tvcts.fields_of s)
+  tvct_whole : Whole tvct_numbers (tvcts.fields_of s)
   unfolding tvcts.fields_of tvcts.fields_in tvct_numbers
-  tvct-whole t e =
-      let p = after_is (section_by (only_of Tvct) s) _ t e in
+  tvct_whole t e =
+      let p = after_is (section_by (onlyOf Tvct) s) _ t e in
       let q = after_is (rest_in Channel s) _ t p.1.1 in
       told_whole tvct_numbers _ t q.1.1
-      (omega (arith, extension-small Tvct p.0 p.1.0), (omega (arith, bytes 9), list10_small s q.0 (omega (arith, rest_small Channel s p.0 q.0 p.1.0 q.1.0))))
+      (omega (arith, extension_small Tvct p.0 p.1.0), (omega (arith, bytes 9), list10_small s q.0 (omega (arith, rest_small Channel s p.0 q.0 p.1.0 q.1.0))))
 
-  channel-small : (a : ℕ) → a ≤ 4096 → Small (channel_numbers (channel.channel_at s a))
+  channel_small : (a : ℕ) → a ≤ 4096 → Small (channel_numbers (channel.channel_at s a))
   unfolding channel_numbers channel.channel_at channel.numbers_row channel.name_row channel.tuning_row channel.service_row channel.name_at channel.tuning_at channel.service_at channel.descriptors_at
-  channel-small a h =
+  channel_small a h =
       let f : (o w : ℕ) → bits_at s (8 * a + o) w < 2 ^ w = λ o w. bits_lt s (8 * a + o) w in (
         omega (arith, f 0 16),
         (
@@ -165,96 +165,96 @@ module _ (s : List ℕ) (bytes : Bytes s) where
         ),
       )
 
-  channel-whole : (i : ℕ) → Whole channel_numbers (tvcts.entry_of s i)
+  channel_whole : (i : ℕ) → Whole channel_numbers (tvcts.entry_of s i)
   unfolding tvcts.entry_of
-  channel-whole i c e =
+  channel_whole i c e =
       let p = after_is (spot_of Channel s i) _ c e in
-      told_whole channel_numbers (channel.channel_at s p.0) c p.1.1 (channel-small p.0 (spot_small Channel s i p.0 p.1.0))
+      told_whole channel_numbers (channel.channel_at s p.0) c p.1.1 (channel_small p.0 (spot_small Channel s i p.0 p.1.0))
 
-  rrt-small : (x b : ℕ) → x < 65536 → b ≤ 4096 → Small (rrt_numbers (rrt.fields_at s x 9 b))
+  rrt_small : (x b : ℕ) → x < 65536 → b ≤ 4096 → Small (rrt_numbers (rrt.fields_at s x 9 b))
   unfolding rrt_numbers
-  rrt-small x b h g = (
+  rrt_small x b h g = (
     omega arith,
     (
       omega arith,
-      small_join (part_row (text_at s 9)) (byte_at s (text_end s 9) ∷ part_row (list_at 1024 s b)) (text-small s bytes 9 (omega arith))
+      small_join (part_row (text_at s 9)) (byte_at s (text_end s 9) ∷ part_row (list_at 1024 s b)) (text_small s bytes 9 (omega arith))
           (omega (arith, bytes (text_end s 9)), list10_small s b (omega arith)),
     ),
   )
 
-  rrt-whole : Whole rrt_numbers (rrts.fields_of s)
+  rrt_whole : Whole rrt_numbers (rrts.fields_of s)
   unfolding rrts.fields_of rrts.fields_in
-  rrt-whole t e =
-      let p = after_is (section_by (only_of Rrt) s) _ t e in
+  rrt_whole t e =
+      let p = after_is (section_by (onlyOf Rrt) s) _ t e in
       let q = after_is (rest_in Dimension s) _ t p.1.1 in
       told_whole rrt_numbers (rrt.fields_at s p.0.extension 9 q.0) t q.1.1
-      (rrt-small p.0.extension q.0 (extension-small Rrt p.0 p.1.0) (rest_small Dimension s p.0 q.0 p.1.0 q.1.0))
+      (rrt_small p.0.extension q.0 (extension_small Rrt p.0 p.1.0) (rest_small Dimension s p.0 q.0 p.1.0 q.1.0))
 
-  dimension-small : (d : ℕ) → d ≤ 4096 → Small (dimension_numbers (rrt.dimension_at s d))
+  dimension_small : (d : ℕ) → d ≤ 4096 → Small (dimension_numbers (rrt.dimension_at s d))
   unfolding dimension_numbers rrt.dimension_at
-  dimension-small d h =
-      small_join (part_row (text_at s d)) (bits_at s (8 * text_end s d + 3) 1 ∷ rrt.values_at s d ∷ []) (text-small s bytes d (omega arith))
+  dimension_small d h =
+      small_join (part_row (text_at s d)) (bits_at s (8 * text_end s d + 3) 1 ∷ rrt.values_at s d ∷ []) (text_small s bytes d (omega arith))
       (omega (arith, bits_lt s (8 * text_end s d + 3) 1), (omega arith, record {}))
 
-  dimension-whole : (i : ℕ) → Whole dimension_numbers (rrts.entry_of s i)
+  dimension_whole : (i : ℕ) → Whole dimension_numbers (rrts.entry_of s i)
   unfolding rrts.entry_of
-  dimension-whole i d e =
+  dimension_whole i d e =
       let p = after_is (spot_of Dimension s i) _ d e in
-      told_whole dimension_numbers (rrt.dimension_at s p.0) d p.1.1 (dimension-small p.0 (spot_small Dimension s i p.0 p.1.0))
+      told_whole dimension_numbers (rrt.dimension_at s p.0) d p.1.1 (dimension_small p.0 (spot_small Dimension s i p.0 p.1.0))
 
-  texts-small : (a : ℕ) → a ≤ 4096 → Small (value_numbers (rrt.texts_at s a))
+  texts_small : (a : ℕ) → a ≤ 4096 → Small (value_numbers (rrt.texts_at s a))
   unfolding value_numbers rrt.texts_at
-  texts-small a h =
-      let n = text-end s bytes a (omega arith) in
-      small_join (part_row (text_at s a)) (part_row (text_at s (text_end s a))) (text-small s bytes a (omega arith)) (text-small s bytes (text_end s a) (omega arith))
+  texts_small a h =
+      let n = text_end_lem s bytes a (omega arith) in
+      small_join (part_row (text_at s a)) (part_row (text_at s (text_end s a))) (text_small s bytes a (omega arith)) (text_small s bytes (text_end s a) (omega arith))
 
-  value-whole : (i j : ℕ) → Whole value_numbers (rrts.value_of s i j)
+  value_whole : (i j : ℕ) → Whole value_numbers (rrts.value_of s i j)
   unfolding rrts.value_of
-  value-whole i j t e =
+  value_whole i j t e =
       let p = after_is (spot_of Dimension s i) _ t e in
       let q = after_is (value_spot s p.0 j) _ t p.1.1 in
-      told_whole value_numbers (rrt.texts_at s q.0) t q.1.1 (texts-small q.0 (value_small s i p.0 j q.0 p.1.0 q.1.0))
+      told_whole value_numbers (rrt.texts_at s q.0) t q.1.1 (texts_small q.0 (value_small s i p.0 j q.0 p.1.0 q.1.0))
 
-  eit-whole : Whole eit_numbers (eits.fields_of s)
+  eit_whole : Whole eit_numbers (eits.fields_of s)
   unfolding eits.fields_of eit_numbers
-  eit-whole t e =
-      let p = after_is (section_by (only_of Eit) s) _ t e in
-      told_whole eit_numbers _ t p.1.1 (omega (arith, extension-small Eit p.0 p.1.0), (omega (arith, bytes 9), record {}))
+  eit_whole t e =
+      let p = after_is (section_by (onlyOf Eit) s) _ t e in
+      told_whole eit_numbers _ t p.1.1 (omega (arith, extension_small Eit p.0 p.1.0), (omega (arith, bytes 9), record {}))
 
-  ett-small : (x n : ℕ) → x < 65536 → n ≤ 4096 → Small (ett_numbers (ett.fields_at s x 9 n))
+  ett_small : (x n : ℕ) → x < 65536 → n ≤ 4096 → Small (ett_numbers (ett.fields_at s x 9 n))
   unfolding ett_numbers ett.fields_at
-  ett-small x n h g = (omega arith, (omega (arith, bits_lt s 72 32), part_small _ (omega arith) (omega arith)))
+  ett_small x n h g = (omega arith, (omega (arith, bits_lt s 72 32), part_small _ (omega arith) (omega arith)))
 
-  ett-whole : Whole ett_numbers (etts.fields_of s)
+  ett_whole : Whole ett_numbers (etts.fields_of s)
   unfolding etts.fields_of
-  ett-whole t e =
-      let p = after_is (section_by (only_of Ett) s) _ t e in
+  ett_whole t e =
+      let p = after_is (section_by (onlyOf Ett) s) _ t e in
       let n = judged_size Ett s p.0 p.1.0 in
       told_whole ett_numbers (ett.fields_at s p.0.extension 9 (length s - 4)) t p.1.1
-      (ett-small p.0.extension (length s - 4) (extension-small Ett p.0 p.1.0) (omega arith))
+      (ett_small p.0.extension (length s - 4) (extension_small Ett p.0 p.1.0) (omega arith))
 
   -- a title has a sort, and stands where its part does or nowhere
   abbrev TitleSmall : Title → Type 0
   TitleSmall t = (title_sort t < 4) × Small (part_row (title_place_told t))
 
-  none-small : TitleSmall None
-  none-small = (omega arith, part_small _ (omega arith) (omega arith))
+  none_small : TitleSmall None
+  none_small = (omega arith, part_small _ (omega arith) (omega arith))
 
-  no-strings-small : TitleSmall NoStrings
-  no-strings-small = (omega arith, part_small _ (omega arith) (omega arith))
+  no_strings_small : TitleSmall NoStrings
+  no_strings_small = (omega arith, part_small _ (omega arith) (omega arith))
 
-  title-small : (start n : ℕ) → start < 4294967296 → n < 4294967296 → TitleSmall (title_of s start n)
+  title_small : (start n : ℕ) → start < 4294967296 → n < 4294967296 → TitleSmall (title_of s start n)
   unfolding title_of if_eq
-  title-small start n h g =
+  title_small start n h g =
       let there : TitleSmall (Text (record { start = start; length = n })) = (omega arith, part_small _ h g) in
-      picked TitleSmall (eqb n 0) _ _ none-small (picked TitleSmall (eqb n 1) _ _ (picked TitleSmall (eqb (byte_at s start) 0) _ _ no-strings-small there) there)
+      picked TitleSmall (eqb n 0) _ _ none_small (picked TitleSmall (eqb n 1) _ _ (picked TitleSmall (eqb (byte_at s start) 0) _ _ no_strings_small there) there)
 
-  event-small : (a : ℕ) → a ≤ 4096 → Small (event_numbers (eit.event_at s a))
+  event_small : (a : ℕ) → a ≤ 4096 → Small (event_numbers (eit.event_at s a))
   unfolding event_numbers eit.event_at eit.title_at eit.title_part eit.descriptors_at text_at
-  event-small a h =
+  event_small a h =
       let f : (o w : ℕ) → bits_at s (8 * a + o) w < 2 ^ w = λ o w. bits_lt s (8 * a + o) w in
-      let t = title-small (a + 9 + 1) (byte_at s (a + 9)) (omega arith) (omega (arith, bytes (a + 9))) in
-      let n = text-end s bytes (a + 9) (omega arith) in (
+      let t = title_small (a + 9 + 1) (byte_at s (a + 9)) (omega arith) (omega (arith, bytes (a + 9))) in
+      let n = text_end_lem s bytes (a + 9) (omega arith) in (
         omega (arith, f 2 14),
         (
           omega (arith, f 16 32),
@@ -271,46 +271,46 @@ module _ (s : List ℕ) (bytes : Bytes s) where
         ),
       )
 
-  event-whole : (i : ℕ) → Whole event_numbers (eits.entry_of s i)
+  event_whole : (i : ℕ) → Whole event_numbers (eits.entry_of s i)
   unfolding eits.entry_of
-  event-whole i d e =
+  event_whole i d e =
       let p = after_is (spot_of Event s i) _ d e in
-      told_whole event_numbers (eit.event_at s p.0) d p.1.1 (event-small p.0 (spot_small Event s i p.0 p.1.0))
+      told_whole event_numbers (eit.event_at s p.0) d p.1.1 (event_small p.0 (spot_small Event s i p.0 p.1.0))
 
-  tables-whole : TablesWhole s
-  tables-whole = record {
-    header = header-whole;
-    mgt = mgt-whole;
-    defined = defined-whole;
-    tvct = tvct-whole;
-    channel = channel-whole;
-    rrt = rrt-whole;
-    dimension = dimension-whole;
-    value = value-whole;
-    eit = eit-whole;
-    event = event-whole;
-    ett = ett-whole;
+  tables_whole : TablesWhole s
+  tables_whole = record {
+    header = header_whole;
+    mgt = mgt_whole;
+    defined = defined_whole;
+    tvct = tvct_whole;
+    channel = channel_whole;
+    rrt = rrt_whole;
+    dimension = dimension_whole;
+    value = value_whole;
+    eit = eit_whole;
+    event = event_whole;
+    ett = ett_whole;
   }
 
   -- ---- what is asked of an event: its list ends within 9,000 bytes
-  list-end : (a : ℕ) → a ≤ 4096 → end_of (eit.descriptors_at s a) ≤ 4294960000
+  list_end_lem : (a : ℕ) → a ≤ 4096 → end_of (eit.descriptors_at s a) ≤ 4294960000
   unfolding eit.descriptors_at list_at
-  list-end a h = omega (arith, text-end s bytes (a + 9) (omega arith))
+  list_end_lem a h = omega (arith, text_end_lem s bytes (a + 9) (omega arith))
 
-  event-asked : (i : ℕ) → EventWhole s i
+  event_asked : (i : ℕ) → EventWhole s i
   unfolding eits.rating_of eits.descriptor_of eits.advisory_text_of event.rating_at event.event_descriptor event.advisory_text_at
-  event-asked i = record {
+  event_asked i = record {
     rating = λ region dimension r e.
         let p = after_is (spot_of Event s i) _ r e in
-        told_whole rating_numbers _ r p.1.1 (rating-small s bytes _ (list-end p.0 (spot_small Event s i p.0 p.1.0)) region dimension (eit.descriptors_at s p.0).start);
+        told_whole rating_numbers _ r p.1.1 (rating_small s bytes _ (list_end_lem p.0 (spot_small Event s i p.0 p.1.0)) region dimension (eit.descriptors_at s p.0).start);
     descriptor = λ k d e.
         let p = after_is (spot_of Event s i) _ d e in
         or_none_whole descriptor_numbers (event.event_descriptor s p.0 k) d
-        (descriptor-small s bytes _ (list-end p.0 (spot_small Event s i p.0 p.1.0)) k (eit.descriptors_at s p.0).start) p.1.1;
+        (descriptor_small s bytes _ (list_end_lem p.0 (spot_small Event s i p.0 p.1.0)) k (eit.descriptors_at s p.0).start) p.1.1;
     advisory = λ region t e.
         let p = after_is (spot_of Event s i) _ t e in
         or_none_whole text_numbers (event.advisory_text_at s p.0 region) t
-        (text-small-in s bytes _ (list-end p.0 (spot_small Event s i p.0 p.1.0)) region (eit.descriptors_at s p.0).start) p.1.1;
+        (text_small_in s bytes _ (list_end_lem p.0 (spot_small Event s i p.0 p.1.0)) region (eit.descriptors_at s p.0).start) p.1.1;
   }
 
 -- ---- a list by itself
@@ -320,15 +320,15 @@ if_filled_lem l o a e = (went_on 9 (eits.is_filled l) o a e).1
 
 list_whole : (l : List ℕ) → Bytes l → Short l → ListWhole l
 list_whole l bytes low = record {
-  rating = λ region dimension r e. told_whole rating_numbers _ r (if_filled_lem l _ r e) (rating-small l bytes (length l) (omega arith) region dimension 0);
-  descriptor = λ k d e. or_none_whole descriptor_numbers (descriptor_in l (length l) k 0) d (descriptor-small l bytes (length l) (omega arith) k 0) (if_filled_lem l _ d e);
-  advisory = λ region t e. or_none_whole text_numbers (text_in l region (length l) 0) t (text-small-in l bytes (length l) (omega arith) region 0) (if_filled_lem l _ t e);
+  rating = λ region dimension r e. told_whole rating_numbers _ r (if_filled_lem l _ r e) (rating_small l bytes (length l) (omega arith) region dimension 0);
+  descriptor = λ k d e. or_none_whole descriptor_numbers (descriptor_in l (length l) k 0) d (descriptor_small l bytes (length l) (omega arith) k 0) (if_filled_lem l _ d e);
+  advisory = λ region t e. or_none_whole text_numbers (text_in l region (length l) 0) t (text_small_in l bytes (length l) (omega arith) region 0) (if_filled_lem l _ t e);
 }
 
 pub told_as_they_are : ToldAsTheyAre
 told_as_they_are = record {
-  section = λ s bytes. record { tables = tables-whole s bytes; event = event-asked s bytes; text = texts-whole s bytes; counts = counts_whole s bytes };
-  field = fields-whole;
+  section = λ s bytes. record { tables = tables_whole s bytes; event = event_asked s bytes; text = texts_whole s bytes; counts = counts_whole s bytes };
+  field = fields_whole;
   list = list_whole;
   written = written_whole;
 }

@@ -50,7 +50,7 @@ use Rattle.lent.specs.Calls.{Left, CallIn, called_first, followed_by, left}
 use Rattle.lent_memory.specs.declared.records.LentWatch.{LentWatch}
 use Rattle.lent_memory.specs.declared.records.Called.{Called}
 use Rattle.lent_memory.proofs.Element.{R, vals, tells, makes, lawful}
-use Rattle.lent.proofs.Front.{cell, FrontLent, lends-front, front-back}
+use Rattle.lent.proofs.Front.{cell, FrontLent, lends_front, front_back}
 use Rattle.lent.proofs.Thin.{Leaves, entry, named_record, passes, slice, val_local}
 use Rattle.lent_memory.proofs.records.LentWatch.TheLaws as T'
 use Rattle.lent_memory.specs.contracts.records.Called as D
@@ -136,8 +136,8 @@ module _ {M : Type 1} {𝓤 : Ura M} (𝓛 : Logic 𝓤) (mem : Memory → SProp
   abbrev pub Cw : Contract 𝓤
   Cw = triple_of 𝓛 cw.signature (cw.spec 𝓛 mem run)
 
-  cw-of : (k : ℕ) (zs : List LentWatch) (c : Called) → ent 𝓤 (ensured 𝓛 cw.ended (cw.clauses 𝓛 mem run) tt (k, (zs, tt)) tt c) (fact 𝓤 ((c.number ≡ k) × (c.watches ≡ zs)))
-  cw-of k zs c = ex_e 𝓤 _ (λ us. snd∗ 𝓤 (sem 𝓛 (lasts cw.ended tt (k, (zs, tt)) us)) (fact 𝓤 ((c.number ≡ k) × (c.watches ≡ zs))))
+  cw_of : (k : ℕ) (zs : List LentWatch) (c : Called) → ent 𝓤 (ensured 𝓛 cw.ended (cw.clauses 𝓛 mem run) tt (k, (zs, tt)) tt c) (fact 𝓤 ((c.number ≡ k) × (c.watches ≡ zs)))
+  cw_of k zs c = ex_e 𝓤 _ (λ us. snd∗ 𝓤 (sem 𝓛 (lasts cw.ended tt (k, (zs, tt)) us)) (fact 𝓤 ((c.number ≡ k) × (c.watches ≡ zs))))
 
   abbrev pub Le : CallIn → Contract 𝓤
   Le g = triple_of 𝓛 le.signature (closing 𝓛 le.ended (entry 𝓤 g))
@@ -157,11 +157,11 @@ module _ {M : Type 1} {𝓤 : Ura M} (𝓛 : Logic 𝓤) (mem : Memory → SProp
   abbrev a : Arg
   a = (ws, (n, (xp, (xa, (xs, (xq, (xr, tt)))))))
 
-  abbrev of-slice : Bor (List ℕ) → Val
-  of-slice y = slice_val y.ref_ptr (length y.now)
+  abbrev of_slice : Bor (List ℕ) → Val
+  of_slice y = slice_val y.ref_ptr (length y.now)
 
   abbrev args : List Val
-  args = only (avals ws) ∷ vint w64 n ∷ of-slice xp ∷ of-slice xa ∷ of-slice xs ∷ of-slice xq ∷ of-slice xr ∷ []
+  args = only (avals ws) ∷ vint w64 n ∷ of_slice xp ∷ of_slice xa ∷ of_slice xs ∷ of_slice xq ∷ of_slice xr ∷ []
 
   abbrev κs : Lfts 5
   κs = (κ₁, (κ₂, (κ₃, (κ₄, (κ₅, tt)))))
@@ -170,7 +170,7 @@ module _ {M : Type 1} {𝓤 : Ura M} (𝓛 : Logic 𝓤) (mem : Memory → SProp
   qs = (q₁, (q₂, (q₃, (q₄, (q₅, tt)))))
 
   abbrev at : Vals f.signature κs
-  at = (avals ws, (vint w64 n ∷ [], (of-slice xp ∷ [], (of-slice xa ∷ [], (of-slice xs ∷ [], (of-slice xq ∷ [], (of-slice xr ∷ [], tt)))))))
+  at = (avals ws, (vint w64 n ∷ [], (of_slice xp ∷ [], (of_slice xa ∷ [], (of_slice xs ∷ [], (of_slice xq ∷ [], (of_slice xr ∷ [], tt)))))))
 
   abbrev Post : Val → SProp 𝓤
   Post = (walk_of 𝓛 f.ended stayed (by_value 𝓤 g)).post ((κs, qs, tt, a, at), tt)
@@ -186,19 +186,19 @@ module _ {M : Type 1} {𝓤 : Ura M} (𝓛 : Logic 𝓤) (mem : Memory → SProp
   T1 = ‵ (flft κ₁ q₁) ⊛ ‵ (flft κ₂ q₂) ⊛ ‵ (flft κ₃ q₃) ⊛ ‵ (flft κ₄ q₄) ⊛ ‵ (flft κ₅ q₅) ⊛ ‵ ftrue
 
   abbrev Pl : Item 𝓤
-  Pl = ‵ ((MutSlice (named 1) κ₁ u32).own_val xp (of-slice xp ∷ []))
+  Pl = ‵ ((MutSlice (named 1) κ₁ u32).own_val xp (of_slice xp ∷ []))
 
   abbrev Ae : Item 𝓤
-  Ae = ‵ ((MutSlice (named 2) κ₂ u8).own_val xa (of-slice xa ∷ []))
+  Ae = ‵ ((MutSlice (named 2) κ₂ u8).own_val xa (of_slice xa ∷ []))
 
   abbrev Se : Item 𝓤
-  Se = ‵ ((ShrSlice (named 3) κ₃ u8).own_val xs (of-slice xs ∷ []))
+  Se = ‵ ((ShrSlice (named 3) κ₃ u8).own_val xs (of_slice xs ∷ []))
 
   abbrev Qu : Item 𝓤
-  Qu = ‵ ((ShrSlice (named 4) κ₄ u32).own_val xq (of-slice xq ∷ []))
+  Qu = ‵ ((ShrSlice (named 4) κ₄ u32).own_val xq (of_slice xq ∷ []))
 
   abbrev Re : Item 𝓤
-  Re = ‵ ((MutSlice (named 5) κ₅ u32).own_val xr (of-slice xr ∷ []))
+  Re = ‵ ((MutSlice (named 5) κ₅ u32).own_val xr (of_slice xr ∷ []))
 
   abbrev Tells : ℕ → List LentWatch → (ps ar re : List ℕ) → Type 0
   Tells k zs ps ar re = Said g n ws xp.now xa.now xs.now xq.now xr.now k zs ps ar re
@@ -213,11 +213,11 @@ module _ {M : Type 1} {𝓤 : Ura M} (𝓛 : Logic 𝓤) (mem : Memory → SProp
       owned ! Dr (Is Dr) (LL.makes D.the_type D'.the_plain 𝓛) c _ i $ done !
 
   -- what each callee's triple binds outside, and that the caller has what it asks
-  abbrev to-cw : ℕ → List LentWatch → (Cw 𝓛 mem run).Ghost
-  to-cw k zs = ((tt, tt, tt, (k, (zs, tt)), (vint w32 k ∷ [], (avals zs, tt))), tt)
+  abbrev to_cw : ℕ → List LentWatch → (Cw 𝓛 mem run).Ghost
+  to_cw k zs = ((tt, tt, tt, (k, (zs, tt)), (vint w32 k ∷ [], (avals zs, tt))), tt)
 
-  goes-cw : (k : ℕ) (zs : List LentWatch) → k < 2 ^ 32 → Is Ar zs (avals zs) → ent 𝓤 (sem 𝓛 ftrue) ((Cw 𝓛 mem run).pre (to-cw k zs))
-  goes-cw k zs i i' =
+  goes_cw : (k : ℕ) (zs : List LentWatch) → k < 2 ^ 32 → Is Ar zs (avals zs) → ent 𝓤 (sem 𝓛 ftrue) ((Cw 𝓛 mem run).pre (to_cw k zs))
+  goes_cw k zs i i' =
       qed 𝓛 (‵ ftrue ∷ []) ∵ owned ! Ar (Is Ar) (Array-Makes 𝓛 R (makes 𝓛) 16) zs _ i' $ fjoin ! $ owned ! u32 (Is u32) (uint_Makes 𝓛 w32) k _ (refl, i) $ fjoin ! $ nothing ! $ join ! $ frame ! $ done !
 
   abbrev x : ℕ → GName → MutBor (List LentWatch)
@@ -229,14 +229,14 @@ module _ {M : Type 1} {𝓤 : Ura M} (𝓛 : Logic 𝓤) (mem : Memory → SProp
   abbrev LeArg : Type 0
   LeArg = Bor (List LentWatch) × (Bor (List ℕ) × (Bor (List ℕ) × (Bor (List ℕ) × (Bor (List ℕ) × (Bor (List ℕ) × Unit {0})))))
 
-  abbrev le-a : ℕ → GName → LeArg
-  le-a l γ = (x l γ, (xp, (xa, (xs, (xq, (xr, tt))))))
+  abbrev le_a : ℕ → GName → LeArg
+  le_a l γ = (x l γ, (xp, (xa, (xs, (xq, (xr, tt))))))
 
-  abbrev le-κ : ℕ → Lfts 6
-  le-κ ν = (ν ∷ [], κs)
+  abbrev le_κ : ℕ → Lfts 6
+  le_κ ν = (ν ∷ [], κs)
 
   abbrev to_le : ℕ → ℕ → GName → (Le 𝓛 mem run g).Ghost
-  to_le l ν γ = ((le-κ ν, (full_share, qs), tt, le-a l γ, (s l ∷ [], (of-slice xp ∷ [], (of-slice xa ∷ [], (of-slice xs ∷ [], (of-slice xq ∷ [], (of-slice xr ∷ [], tt))))))), tt)
+  to_le l ν γ = ((le_κ ν, (full_share, qs), tt, le_a l γ, (s l ∷ [], (of_slice xp ∷ [], (of_slice xa ∷ [], (of_slice xs ∷ [], (of_slice xq ∷ [], (of_slice xr ∷ [], tt))))))), tt)
 
   abbrev Tk : ℕ → Item 𝓤
   Tk ν = ‵ (flft (ν ∷ []) full_share) ⊛ T1
@@ -247,8 +247,8 @@ module _ {M : Type 1} {𝓤 : Ura M} (𝓛 : Logic 𝓤) (mem : Memory → SProp
   abbrev Five : Item 𝓤
   Five = Re ⊛ (Qu ⊛ (Se ⊛ (Ae ⊛ Pl)))
 
-  goes-le : (l ν : ℕ) (γ : GName) → ent 𝓤 (⋆ 𝓛 (Tk ν ∷ Five ∷ Ws l ν γ ∷ [])) ((Le 𝓛 mem run g).pre (to_le l ν γ))
-  goes-le l ν γ =
+  goes_le : (l ν : ℕ) (γ : GName) → ent 𝓤 (⋆ 𝓛 (Tk ν ∷ Five ∷ Ws l ν γ ∷ [])) ((Le 𝓛 mem run g).pre (to_le l ν γ))
+  goes_le l ν γ =
       qed 𝓛 (Tk ν ∷ Five ∷ Ws l ν γ ∷ []) ∵ move ! (1 ∷ []) $ split ! $ nothing ! $ move ! (1 ∷ 0 ∷ []) $ fjoin ! $ move ! (1 ∷ []) $ split ! $ move ! (0 ∷ 2 ∷ []) $ fjoin ! $ move ! (1 ∷ []) $ split ! $ move ! (0 ∷ 2 ∷ []) $ fjoin ! $
       move ! (1 ∷ []) $ split ! $ move ! (0 ∷ 2 ∷ []) $ fjoin ! $ move ! (1 ∷ 0 ∷ []) $ fjoin ! $ move ! (2 ∷ 0 ∷ []) $ fjoin ! $ move ! (1 ∷ 0 ∷ []) $ join ! $ frame ! $ done !
 
@@ -267,10 +267,10 @@ module _ {M : Type 1} {𝓤 : Ura M} (𝓛 : Logic 𝓤) (mem : Memory → SProp
       leaves k zs ps ar re e k-fits zs-is lp la lr =
           assigns ! (of_opd ! (load ! (from ! (stop !)) (look ! 23 refl))) (from ! (stop !)) (init ! 27 refl (tt, record { fits = k-fits })) $
           assigns ! (of_opd ! (load ! (from ! (stop !)) (look ! 4 refl))) (from ! (stop !)) (init ! 5 refl ((Array-Lawful 𝓛 R (lawful 𝓛) 16).typed zs _ zs-is).0) $
-          nothing ! $ use1 𝓛 (raw ((Cw 𝓛 mem run).pre (to-cw k zs))) (goes-cw k zs k-fits zs-is) $
-          calls_at ! fm (Cw 𝓛 mem run) known-cw (to-cw k zs) (and_then ! (load ! (from ! (stop !)) (look ! 28 refl)) (and_then ! (load ! (from ! (stop !)) (look ! 6 refl)) (no_more !))) (λ v.
+          nothing ! $ use1 𝓛 (raw ((Cw 𝓛 mem run).pre (to_cw k zs))) (goes_cw k zs k-fits zs-is) $
+          calls_at ! fm (Cw 𝓛 mem run) known-cw (to_cw k zs) (and_then ! (load ! (from ! (stop !)) (look ! 28 refl)) (and_then ! (load ! (from ! (stop !)) (look ! 6 refl)) (no_more !))) (λ v.
           use1 𝓛 (later (some (λ (c : Called). (‵ ftrue ⊛ ‵ (Dr.own c (v ∷ []))) ⊛ raw (ensured 𝓛 cw.ended (cw.clauses 𝓛 mem run) tt (k, (zs, tt)) tt c)))) (id⊢ 𝓤 _) $ await ! tt $ picks ! (λ c.
-          split ! $ move ! (1 ∷ []) $ use1 𝓛 (raw (fact 𝓤 ((c.number ≡ k) × (c.watches ≡ zs)))) (cw-of 𝓛 mem run k zs c) $ heard ! ((c.number ≡ k) × (c.watches ≡ zs)) (λ e₂. split ! $ drop ! $
+          split ! $ move ! (1 ∷ []) $ use1 𝓛 (raw (fact 𝓤 ((c.number ≡ k) × (c.watches ≡ zs)))) (cw_of 𝓛 mem run k zs c) $ heard ! ((c.number ≡ k) × (c.watches ≡ zs)) (λ e₂. split ! $ drop ! $
           peeks ! Dr (Is Dr) (shows 𝓛 Dr) c (v ∷ []) (λ is. land ! (from ! (stop !)) (init ! 45 refl ((LL.lawful D.the_type D'.the_laws 𝓛).typed c _ is).0) $ drop ! $
           returns ! (look ! 44 refl) $ forget ! 4 refl $ forget ! 5 refl $ forget ! 23 refl $ forget ! 27 refl $ forget ! 44 refl $
           move ! (44 ∷ 45 ∷ []) $ free1 ! $ move ! (42 ∷ 43 ∷ []) $ free1 ! $ move ! (40 ∷ 41 ∷ []) $ free1 ! $ move ! (38 ∷ 39 ∷ []) $ free1 ! $ move ! (36 ∷ 37 ∷ []) $ free1 ! $ move ! (34 ∷ 35 ∷ []) $ free1 ! $ move ! (32 ∷ 33 ∷ []) $ free1 ! $ move ! (30 ∷ 31 ∷ []) $ free1 ! $ move ! (4 ∷ 29 ∷ []) $ free1 ! $ move ! (26 ∷ 27 ∷ []) $ free1 ! $ move ! (24 ∷ 25 ∷ []) $ free1 ! $ move ! (22 ∷ 23 ∷ []) $ free1 ! $ move ! (20 ∷ 21 ∷ []) $ free1 ! $ move ! (18 ∷ 19 ∷ []) $ free1 ! $ move ! (16 ∷ 17 ∷ []) $ free1 ! $ move ! (14 ∷ 15 ∷ []) $ free1 ! $ move ! (12 ∷ 13 ∷ []) $ free1 ! $ move ! (10 ∷ 11 ∷ []) $ free1 ! $ move ! (8 ∷ 9 ∷ []) $ free1 ! $ move ! (6 ∷ 7 ∷ []) $ free1 ! $ move ! (4 ∷ 5 ∷ []) $ free1 ! $ free0 ! $
@@ -290,8 +290,8 @@ module _ {M : Type 1} {𝓤 : Ura M} (𝓛 : Logic 𝓤) (mem : Memory → SProp
         assigns_last ! (of_opd ! (lit ! tt)) (from ! (stop !)) (init ! 24 refl (tt, record { fits = lit< tt })) $
         exec ! C Λ (E l₀ l₁ l₂ l₃ l₄ l₅ l₆ l₇ l₈ l₉ l₁₀ l₁₁ l₁₂ l₁₃ l₁₄ l₁₅ l₁₆ l₁₇ l₁₈ l₁₉ l₂₀) tail (at_ret (E l₀ l₁ l₂ l₃ l₄ l₅ l₆ l₇ l₈ l₉ l₁₀ l₁₁ l₁₂ l₁₃ l₁₄ l₁₅ l₁₆ l₁₇ l₁₈ l₁₉ l₂₀) Post) $
         -- the slices end as they were
-        move ! (2 ∷ 3 ∷ []) $ drop ! $ drop ! $ move ! (1 ∷ []) $ use1 𝓛 (‵ (finally u32 xr.ghost_name xr.now)) (ends_same 𝓛 mem run u32 (named 5) κ₅ xr (of-slice xr ∷ [])) $
-        move ! (2 ∷ []) $ use1 𝓛 (‵ (finally u8 xa.ghost_name xa.now)) (ends_same 𝓛 mem run u8 (named 2) κ₂ xa (of-slice xa ∷ [])) $ move ! (3 ∷ []) $ use1 𝓛 (‵ (finally u32 xp.ghost_name xp.now)) (ends_same 𝓛 mem run u32 (named 1) κ₁ xp (of-slice xp ∷ [])) $
+        move ! (2 ∷ 3 ∷ []) $ drop ! $ drop ! $ move ! (1 ∷ []) $ use1 𝓛 (‵ (finally u32 xr.ghost_name xr.now)) (ends_same 𝓛 mem run u32 (named 5) κ₅ xr (of_slice xr ∷ [])) $
+        move ! (2 ∷ []) $ use1 𝓛 (‵ (finally u8 xa.ghost_name xa.now)) (ends_same 𝓛 mem run u8 (named 2) κ₂ xa (of_slice xa ∷ [])) $ move ! (3 ∷ []) $ use1 𝓛 (‵ (finally u32 xp.ghost_name xp.now)) (ends_same 𝓛 mem run u32 (named 1) κ₁ xp (of_slice xp ∷ [])) $
         move ! (3 ∷ 0 ∷ 1 ∷ 2 ∷ 28 ∷ []) $ forget ! 25 refl $ forget ! 30 refl $ forget ! 32 refl $ forget ! 34 refl $ forget ! 36 refl $ forget ! 38 refl $ forget ! 40 refl $ forget ! 42 refl $
         leaves l₀ l₁ l₂ l₃ l₄ l₅ l₆ l₇ l₈ l₉ l₁₀ l₁₁ l₁₂ l₁₃ l₁₄ l₁₅ l₁₆ l₁₇ l₁₈ l₁₉ l₂₀ 14 ws xp.now xa.now xr.now (too_many g n ws xp.now xa.now xs.now xq.now xr.now held) (lit< tt) ws-is refl refl refl)
         (λ failed.
@@ -307,13 +307,13 @@ module _ {M : Type 1} {𝓤 : Ura M} (𝓛 : Logic 𝓤) (mem : Memory → SProp
         move ! (4 ∷ 5 ∷ []) $ join ! $ move ! (4 ∷ 0 ∷ []) $ join ! $ move ! (3 ∷ 0 ∷ []) $ join ! $ move ! (2 ∷ 0 ∷ []) $ join ! $
         -- [the slices; the tokens; _20; …]: the first n of the array are lent for a lifetime ν of the call
         lft_new ! tt (λ ν. move ! (27 ∷ []) $
-        use1 𝓛 (later (some (λ (γ : GName). Ws l₈ ν γ ⊛ ‵ (FrontLent R tt 16 vals tells l₈ (ν ∷ []) γ n ws)))) (lends-front R tt 16 vals tells l₈ 𝓛 (makes 𝓛) (named 0) (ν ∷ []) n ws ws-is room) $ await ! tt $ picks ! (λ γ. split ! $
+        use1 𝓛 (later (some (λ (γ : GName). Ws l₈ ν γ ⊛ ‵ (FrontLent R tt 16 vals tells l₈ (ν ∷ []) γ n ws)))) (lends_front R tt 16 vals tells l₈ 𝓛 (makes 𝓛) (named 0) (ν ∷ []) n ws ws-is room) $ await ! tt $ picks ! (λ γ. split ! $
         -- [the slice of records; what the lender keeps; the token of ν; the slices; the tokens; _20; …]
-        move ! (2 ∷ 4 ∷ []) $ join ! $ move ! (0 ∷ 3 ∷ 1 ∷ []) $ use3 𝓛 (raw ((Le 𝓛 mem run g).pre (to_le l₈ ν γ))) (goes-le l₈ ν γ) $
+        move ! (2 ∷ 4 ∷ []) $ join ! $ move ! (0 ∷ 3 ∷ 1 ∷ []) $ use3 𝓛 (raw ((Le 𝓛 mem run g).pre (to_le l₈ ν γ))) (goes_le l₈ ν γ) $
         -- [pre; what the lender keeps; _20; …; that _8 dies; …]
         calls_at_last ! fm (Le 𝓛 mem run g) known-le (to_le l₈ ν γ) (and_then ! (load ! (from ! (stop !)) (look ! 16 refl)) (and_then ! (load ! (from ! (stop !)) (look ! 12 refl)) (and_then ! (load ! (from ! (stop !)) (look ! 8 refl)) (and_then ! (load ! (from ! (stop !)) (look ! 31 refl)) (and_then ! (load ! (from ! (stop !)) (look ! 29 refl)) (and_then ! (load ! (from ! (stop !)) (look ! 4 refl)) (no_more !))))))) (λ v.
-        use1 𝓛 (later (some (λ (k : ℕ). (Tk ν ⊛ ‵ (u32.own_val k (v ∷ []))) ⊛ raw (ensured 𝓛 le.ended (entry 𝓤 g) (le-κ ν) (le-a l₈ γ) tt k)))) (id⊢ 𝓤 _) $ await ! tt $ picks ! (λ k.
-        split ! $ move ! (1 ∷ []) $ use1 𝓛 (some (λ (zs : List LentWatch × (List ℕ × (List ℕ × (Unit {0} × (Unit {0} × (List ℕ × Unit {0})))))). ‵ (lasts le.ended (le-κ ν) (le-a l₈ γ) zs) ⊛ raw (fact 𝓤 (LeSays k zs.0 zs.1.0 zs.1.1.0 zs.1.1.1.1.1.0)))) (id⊢ 𝓤 _) $ picks ! (λ zs.
+        use1 𝓛 (later (some (λ (k : ℕ). (Tk ν ⊛ ‵ (u32.own_val k (v ∷ []))) ⊛ raw (ensured 𝓛 le.ended (entry 𝓤 g) (le_κ ν) (le_a l₈ γ) tt k)))) (id⊢ 𝓤 _) $ await ! tt $ picks ! (λ k.
+        split ! $ move ! (1 ∷ []) $ use1 𝓛 (some (λ (zs : List LentWatch × (List ℕ × (List ℕ × (Unit {0} × (Unit {0} × (List ℕ × Unit {0})))))). ‵ (lasts le.ended (le_κ ν) (le_a l₈ γ) zs) ⊛ raw (fact 𝓤 (LeSays k zs.0 zs.1.0 zs.1.1.0 zs.1.1.1.1.1.0)))) (id⊢ 𝓤 _) $ picks ! (λ zs.
         split ! $ move ! (1 ∷ []) $ heard ! (LeSays k zs.0 zs.1.0 zs.1.1.0 zs.1.1.1.1.1.0) (λ e. fsplit ! $ move ! (1 ∷ []) $ fsplit ! $ move ! (1 ∷ []) $ fsplit ! $ move ! (1 ∷ []) $ fsplit ! $ drop ! $ fsplit ! $ drop ! $ fsplit ! $ move ! (1 ∷ []) $ drop ! $
         fsplit ! $ move ! (1 ∷ []) $ feq_l ! (λ lr. move ! (1 ∷ []) $ fsplit ! $ move ! (1 ∷ []) $ feq_l ! (λ la. move ! (2 ∷ []) $ fsplit ! $ move ! (1 ∷ []) $ feq_l ! (λ lp. move ! (3 ∷ []) $ fsplit ! $ move ! (1 ∷ []) $ feq_l ! (λ lw.
         -- [the last list of records; that of places; that of area; that of reply; the tokens and the result; what the lender keeps; _20; …]
@@ -322,7 +322,7 @@ module _ {M : Type 1} {𝓤 : Ura M} (𝓛 : Logic 𝓤) (mem : Memory → SProp
         exec ! C Λ (E l₀ l₁ l₂ l₃ l₄ l₅ l₆ l₇ l₈ l₉ l₁₀ l₁₁ l₁₂ l₁₃ l₁₄ l₁₅ l₁₆ l₁₇ l₁₈ l₁₉ l₂₀) tail (at_ret (E l₀ l₁ l₂ l₃ l₄ l₅ l₆ l₇ l₈ l₉ l₁₀ l₁₁ l₁₂ l₁₃ l₁₄ l₁₅ l₁₆ l₁₇ l₁₈ l₁₉ l₂₀) Post) $
         -- the lifetime is ended, and the array is whole again
         split ! $ lft_end ! tt $ move ! (0 ∷ 6 ∷ 2 ∷ []) $
-        use3 𝓛 (later (‵ (cell R tt 16 vals tells l₈ (zs.0 ++ drop-list n ws)) ⊛ ‵ (Ar.own (zs.0 ++ drop-list n ws) (avals (zs.0 ++ drop-list n ws))))) (front-back R tt 16 vals tells l₈ 𝓛 (makes 𝓛) (ν ∷ []) γ n ws zs.0 len) $ await ! tt $ split ! $
+        use3 𝓛 (later (‵ (cell R tt 16 vals tells l₈ (zs.0 ++ drop-list n ws)) ⊛ ‵ (Ar.own (zs.0 ++ drop-list n ws) (avals (zs.0 ++ drop-list n ws))))) (front_back R tt 16 vals tells l₈ 𝓛 (makes 𝓛) (ν ∷ []) γ n ws zs.0 len) $ await ! tt $ split ! $
         move ! (1 ∷ []) $ peeks ! Ar (Is Ar) (shows 𝓛 Ar) (zs.0 ++ drop-list n ws) (avals (zs.0 ++ drop-list n ws)) (λ is₂. drop ! $
         forget ! 7 refl $ forget ! 9 refl $ forget ! 11 refl $ forget ! 13 refl $ forget ! 15 refl $ forget ! 17 refl $ forget ! 19 refl $ forget ! 21 refl $ forget ! 25 refl $ forget ! 30 refl $ forget ! 32 refl $ forget ! 34 refl $ forget ! 36 refl $ forget ! 38 refl $ forget ! 40 refl $ forget ! 42 refl $
         move ! (1 ∷ 2 ∷ 3 ∷ 4 ∷ 0 ∷ []) $

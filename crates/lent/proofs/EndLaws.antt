@@ -46,9 +46,9 @@ module _ (s t : Shelf) (k : ℕ) (ws : List LentWatch) (h : s.records ≡ length
   puts true = refl
   puts false = set_out ws s.records blank (omega (arith, h))
 
-  ending-puts : set ws (ending_at i n s t k).at (ending_at i n s t k).watch ≡ record_put i n t ws
+  ending_puts : set ws (ending_at i n s t k).at (ending_at i n s t k).watch ≡ record_put i n t ws
   unfolding ending_at record_put
-  ending-puts = puts (ltb i n)
+  ending_puts = puts (ltb i n)
 
 pick_number : (b : Bool) (k : ℕ) (x y : Ending) → x.number ≡ k → y.number ≡ k → (pick b x y).number ≡ k
 pick_number true k x y e f = e
@@ -79,46 +79,46 @@ module _ (k : Book) (l area b q y : List ℕ) (s t : Shelf) (n : ℕ) (r : Endin
   unfolding called shelf_in
   ends f area' y' w = λ ws g.
       (λ z. left (e.0 z).number (set ws (e.0 z).at (e.0 z).watch) (e.1 z) area' y')
-      ∙ (λ z. left (ending_number (changed_at s t (compared s)) (compared s) s t n z) (ending-puts s t n ws (ap (λ (u : Shelf). u.records) h ∙ g.0) (changed_at s t (compared s)) (compared s) z) (rows_after s t l) area' y')
+      ∙ (λ z. left (ending_number (changed_at s t (compared s)) (compared s) s t n z) (ending_puts s t n ws (ap (λ (u : Shelf). u.records) h ∙ g.0) (changed_at s t (compared s)) (compared s) z) (rows_after s t l) area' y')
       ∙ w ws (h ∙ (λ z. shelf_in (g.0 z) (g.1 z) l))
       ∙ sym (ap (λ (c : Bool). pick c (lent_call (lent ws l area) (f b q) y) (record { number = 14; state = lent ws l area; reply = y })) sized)
 
   module _ (o : Outcome (Unit {0})) (i : n ≡ number_in o) where
-    pub opening-said : (a : Asked) (z : ℕ) → a ≡ asked_in q → z ≡ amount_in q → ◌≡◌ {A = After (Unit {0})} (record { outcome = o; shelf = t }) (opened s (length area) a z)
+    pub opening_said : (a : Asked) (z : ℕ) → a ≡ asked_in q → z ≡ amount_in q → ◌≡◌ {A = After (Unit {0})} (record { outcome = o; shelf = t }) (opened s (length area) a z)
         → Ends opening_in k l area b q y r l' area y
     unfolding lent_call
-    opening-said a z e₁ e₂ e₃ = ends opening_in area y (λ ws m.
+    opening_said a z e₁ e₂ e₃ = ends opening_in area y (λ ws m.
         ap (λ (n : ℕ). left n (records_after s t ws) (rows_after s t l) area y) i
         ∙ ap (leaving s ws area y) e₃
         ∙ (λ v. leaving (m v) ws area y (opened (m v) (length area) (e₁ v) (e₂ v))))
 
-    pub closing-said : (a : Asked) → a ≡ asked_in q → ◌≡◌ {A = After (Unit {0})} (record { outcome = o; shelf = t }) (closed s (length area) a) → Ends closing_in k l area b q y r l' area y
+    pub closing_said : (a : Asked) → a ≡ asked_in q → ◌≡◌ {A = After (Unit {0})} (record { outcome = o; shelf = t }) (closed s (length area) a) → Ends closing_in k l area b q y r l' area y
     unfolding lent_call
-    closing-said a e₁ e₃ = ends closing_in area y (λ ws m.
+    closing_said a e₁ e₃ = ends closing_in area y (λ ws m.
         ap (λ (n : ℕ). left n (records_after s t ws) (rows_after s t l) area y) i
         ∙ ap (leaving s ws area y) e₃
         ∙ (λ v. leaving (m v) ws area y (closed (m v) (length area) (e₁ v))))
 
-    pub delivery-said : (area' : List ℕ) (p : ℕ) → p ≡ number_at q 0 → ◌≡◌ {A = After (Unit {0})} (record { outcome = o; shelf = t }) (delivered s (length area) p b)
+    pub delivery_said : (area' : List ℕ) (p : ℕ) → p ≡ number_at q 0 → ◌≡◌ {A = After (Unit {0})} (record { outcome = o; shelf = t }) (delivered s (length area) p b)
         → area' ≡ area_after area b (delivering s (length area) p b).outcome → Ends delivery_in k l area b q y r l' area' y
     unfolding lent_call
-    delivery-said area' p e₁ e₂ e₃ = ends delivery_in area' y (λ ws m.
+    delivery_said area' p e₁ e₂ e₃ = ends delivery_in area' y (λ ws m.
         ap (λ (n : ℕ). left n (records_after s t ws) (rows_after s t l) area' y) i
         ∙ (λ v. leaving s ws (e₃ v) y (e₂ v))
         ∙ (λ v. leaving (m v) ws (area_after area b (delivering (m v) (length area) (e₁ v) b).outcome) y (delivered (m v) (length area) (e₁ v) b)))
 
-  pub asking-said : (o : Outcome Status) (y' : List ℕ) (a : Asked) → (n ≡ number_in o) × (y' ≡ reply_after status_numbers y o) → a ≡ asked_in q
+  pub asking_said : (o : Outcome Status) (y' : List ℕ) (a : Asked) → (n ≡ number_in o) × (y' ≡ reply_after status_numbers y o) → a ≡ asked_in q
       → ◌≡◌ {A = After Status} (record { outcome = o; shelf = t }) (status_after s (length area) a) → Ends asking_in k l area b q y r l' area y'
   unfolding lent_call
-  asking-said o y' a i e₁ e₃ = ends asking_in area y' (λ ws m.
+  asking_said o y' a i e₁ e₃ = ends asking_in area y' (λ ws m.
       (λ v. left (i.0 v) (records_after s t ws) (rows_after s t l) area (i.1 v))
       ∙ ap (λ (u : After Status). leaving s ws area (reply_after status_numbers y u.outcome) u) e₃
       ∙ (λ v. leaving (m v) ws area (reply_after status_numbers y (status_after (m v) (length area) (e₁ v)).outcome) (status_after (m v) (length area) (e₁ v))))
 
-  pub fetching-said : (o : Outcome Part) (y' : List ℕ) (a : Asked) (z : ℕ) → (n ≡ number_in o) × (y' ≡ reply_after part_numbers y o) → a ≡ asked_in q → z ≡ amount_in q
+  pub fetching_said : (o : Outcome Part) (y' : List ℕ) (a : Asked) (z : ℕ) → (n ≡ number_in o) × (y' ≡ reply_after part_numbers y o) → a ≡ asked_in q → z ≡ amount_in q
       → ◌≡◌ {A = After Part} (record { outcome = o; shelf = t }) (fetched s (length area) a z) → Ends fetching_in k l area b q y r l' area y'
   unfolding lent_call
-  fetching-said o y' a z i e₁ e₂ e₃ = ends fetching_in area y' (λ ws m.
+  fetching_said o y' a z i e₁ e₂ e₃ = ends fetching_in area y' (λ ws m.
       (λ v. left (i.0 v) (records_after s t ws) (rows_after s t l) area (i.1 v))
       ∙ ap (λ (u : After Part). leaving s ws area (reply_after part_numbers y u.outcome) u) e₃
       ∙ (λ v. leaving (m v) ws area (reply_after part_numbers y (fetched (m v) (length area) (e₁ v) (e₂ v)).outcome) (fetched (m v) (length area) (e₁ v) (e₂ v))))

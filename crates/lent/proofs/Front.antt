@@ -45,10 +45,10 @@ module _ (R : RattleType) (one : Single R.mir) (n : ℕ) (vals : R.Denot → Lis
   module _ {M : Type 1} {𝓤 : Ura M} (𝓛 : Logic 𝓤) (mk : Makes 𝓛 R (Is R)) where
     open 𝓛 use {H, A}
 
-    pub lends-front : (ℓ : Lifetime) (κ : Lft) (k : ℕ) (xs : List R.Denot) → Is (Array R n) xs (array_vals vals xs) → Room R (length (take k xs))
+    pub lends_front : (ℓ : Lifetime) (κ : Lft) (k : ℕ) (xs : List R.Denot) → Is (Array R n) xs (array_vals vals xs) → Room R (length (take k xs))
         → ent 𝓤 (sem 𝓛 (cell xs)) (H.⇛ (ex 𝓤 (λ (γ : GName). sep 𝓤 (sem 𝓛 ((MutSlice ℓ κ R).own_val (record { ref_ptr = (l, 0); ghost_name = γ; now = take k xs }) (slice_val (l, 0) (length (take k xs)) ∷ []))) (sem 𝓛 (FrontLent κ γ k xs)))))
     unfolding part_of
-    lends-front ℓ κ k xs is room =
+    lends_front ℓ κ k xs is room =
         qed 𝓛 (‵ (cell xs) ∷ []) ∵ updating ! $ use1 𝓛 (‵ (cell_at full_share (Array R n).mir (array_vals vals xs) l 0)) (𝓛.laws.at_raw full_share τ l 0 (only (array_vals vals xs))) $
         owned ! (Array R n) (Is (Array R n)) (Array-Makes 𝓛 R mk n) xs _ is $ move ! (1 ∷ 0 ∷ []) $ fjoin ! $
         fpack ! (List Val) (λ us. fsep (cell_at full_share (Array R n).mir us l 0) ((Array R n).own_val xs us)) (array_vals vals xs) $
@@ -58,10 +58,10 @@ module _ (R : RattleType) (one : Single R.mir) (n : ℕ) (vals : R.Denot → Lis
         use1 𝓛 (later (some (λ (γ : GName). ‵ ((MutSlice ℓ κ R).own_val (record { ref_ptr = (l, 0); ghost_name = γ; now = take k xs }) (slice_val (l, 0) (length (take k xs)) ∷ [])) ⊛ ‵ (flent κ (Held R (length (take k xs)) l 0 γ))))) (lends_slice 𝓛 R ℓ κ (take k xs) l 0 room) $ await ! tt $ pick ! (λ γ. split ! $ at_once ! $
         show ! (λ (γ' : GName). sep 𝓤 (sem 𝓛 ((MutSlice ℓ κ R).own_val (record { ref_ptr = (l, 0); ghost_name = γ'; now = take k xs }) (slice_val (l, 0) (length (take k xs)) ∷ []))) (sem 𝓛 (FrontLent κ γ' k xs))) γ $ frame ! $ fjoin ! $ done !)
 
-    pub front-back : (κ : Lft) (γ : GName) (k : ℕ) (xs zs : List R.Denot) → length xs ≡ n
+    pub front_back : (κ : Lft) (γ : GName) (k : ℕ) (xs zs : List R.Denot) → length xs ≡ n
         → ent 𝓤 (sep 𝓤 (A.dead κ) (sep 𝓤 (sem 𝓛 (FrontLent κ γ k xs)) (sem 𝓛 (finally R γ zs)))) (H.⇛ (sep 𝓤 (sem 𝓛 (cell (zs ++ drop-list k xs))) (sem 𝓛 ((Array R n).own_val (zs ++ drop-list k xs) (array_vals vals (zs ++ drop-list k xs))))))
     unfolding part_of
-    front-back κ γ k xs zs len =
+    front_back κ γ k xs zs len =
         qed 𝓛 (‵ (fdead κ) ∷ ‵ (FrontLent κ γ k xs) ∷ ‵ (finally R γ zs) ∷ []) ∵ updating ! $ move ! (1 ∷ []) $ fsplit ! $ move ! (2 ∷ 0 ∷ 3 ∷ []) $
         -- [†κ; its part of the loan; the last elements; those behind]
         use3 𝓛 (later (‵ ((Arr (mem R) (length (take k xs))).own_at zs l 0))) (slice_back 𝓛 R κ γ zs (length (take k xs)) l 0) $ await ! tt $ fsplit ! $ feq_l ! (λ e.

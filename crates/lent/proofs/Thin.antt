@@ -134,8 +134,8 @@ module _ {M : Type 1} {𝓤 : Ura M} (𝓛 : Logic 𝓤) (mem : Memory → SProp
   abbrev pub Co : CallIn → Contract 𝓤
   Co g = triple_of 𝓛 co.signature (closing 𝓛 co.ended (core 𝓤 g))
 
-  ga-of : (κ : Lft) (x : Bor (List LentWatch)) (r : Book) → ent 𝓤 (ensured 𝓛 ga.ended (ga.clauses 𝓛 mem run) (κ, tt) (x, tt) tt r) (fact 𝓤 (Gathered r x.now))
-  ga-of κ x r = ex_e 𝓤 _ (λ ws. snd∗ 𝓤 (sem 𝓛 (lasts ga.ended (κ, tt) (x, tt) ws)) (fact 𝓤 (Gathered r x.now)))
+  ga_of : (κ : Lft) (x : Bor (List LentWatch)) (r : Book) → ent 𝓤 (ensured 𝓛 ga.ended (ga.clauses 𝓛 mem run) (κ, tt) (x, tt) tt r) (fact 𝓤 (Gathered r x.now))
+  ga_of κ x r = ex_e 𝓤 _ (λ ws. snd∗ 𝓤 (sem 𝓛 (lasts ga.ended (κ, tt) (x, tt) ws)) (fact 𝓤 (Gathered r x.now)))
 
 module _ {M : Type 1} {𝓤 : Ura M} (𝓛 : Logic 𝓤) (mem : Memory → SProp 𝓤) (run : Routine → Fun 𝓤) (g : CallIn) (#co : Name) (κ κ₁ κ₂ κ₃ κ₄ κ₅ : Lft) (q q₁ q₂ q₃ q₄ q₅ : Share)
     (b o : ℕ) (γ : GName) (ys : List LentWatch) (xp xa xs xq xr : MutBor (List ℕ)) (room : Room R (length ys)) (room₁ : Room u32 (length xp.now)) (room₂ : Room u8 (length xa.now)) (room₃ : Room u8 (length xs.now))
@@ -151,14 +151,14 @@ module _ {M : Type 1} {𝓤 : Ura M} (𝓛 : Logic 𝓤) (mem : Memory → SProp
   abbrev a : Arg
   a = (x γ, (xp, (xa, (xs, (xq, (xr, tt))))))
 
-  abbrev of-slice : Bor (List ℕ) → Val
-  of-slice y = slice_val y.ref_ptr (length y.now)
+  abbrev of_slice : Bor (List ℕ) → Val
+  of_slice y = slice_val y.ref_ptr (length y.now)
 
   abbrev s : Val
   s = slice_val (b, o) (length ys)
 
   abbrev args : List Val
-  args = s ∷ of-slice xp ∷ of-slice xa ∷ of-slice xs ∷ of-slice xq ∷ of-slice xr ∷ []
+  args = s ∷ of_slice xp ∷ of_slice xa ∷ of_slice xs ∷ of_slice xq ∷ of_slice xr ∷ []
 
   abbrev κs : Lfts 6
   κs = (κ, (κ₁, (κ₂, (κ₃, (κ₄, (κ₅, tt))))))
@@ -167,7 +167,7 @@ module _ {M : Type 1} {𝓤 : Ura M} (𝓛 : Logic 𝓤) (mem : Memory → SProp
   qs = (q, (q₁, (q₂, (q₃, (q₄, (q₅, tt))))))
 
   abbrev at : Vals f.signature κs
-  at = (s ∷ [], (of-slice xp ∷ [], (of-slice xa ∷ [], (of-slice xs ∷ [], (of-slice xq ∷ [], (of-slice xr ∷ [], tt))))))
+  at = (s ∷ [], (of_slice xp ∷ [], (of_slice xa ∷ [], (of_slice xs ∷ [], (of_slice xq ∷ [], (of_slice xr ∷ [], tt))))))
 
   abbrev Post : Val → SProp 𝓤
   Post = (walk_of 𝓛 f.ended stayed (entry 𝓤 g)).post ((κs, qs, tt, a, at), tt)
@@ -177,19 +177,19 @@ module _ {M : Type 1} {𝓤 : Ura M} (𝓛 : Logic 𝓤) (mem : Memory → SProp
   T1 = ‵ (flft κ₁ q₁) ⊛ ‵ (flft κ₂ q₂) ⊛ ‵ (flft κ₃ q₃) ⊛ ‵ (flft κ₄ q₄) ⊛ ‵ (flft κ₅ q₅) ⊛ ‵ ftrue
 
   abbrev Pl : Item 𝓤
-  Pl = ‵ ((MutSlice (named 1) κ₁ u32).own_val xp (of-slice xp ∷ []))
+  Pl = ‵ ((MutSlice (named 1) κ₁ u32).own_val xp (of_slice xp ∷ []))
 
   abbrev Ar : Item 𝓤
-  Ar = ‵ ((MutSlice (named 2) κ₂ u8).own_val xa (of-slice xa ∷ []))
+  Ar = ‵ ((MutSlice (named 2) κ₂ u8).own_val xa (of_slice xa ∷ []))
 
   abbrev Se : Item 𝓤
-  Se = ‵ ((ShrSlice (named 3) κ₃ u8).own_val xs (of-slice xs ∷ []))
+  Se = ‵ ((ShrSlice (named 3) κ₃ u8).own_val xs (of_slice xs ∷ []))
 
   abbrev Qu : Item 𝓤
-  Qu = ‵ ((ShrSlice (named 4) κ₄ u32).own_val xq (of-slice xq ∷ []))
+  Qu = ‵ ((ShrSlice (named 4) κ₄ u32).own_val xq (of_slice xq ∷ []))
 
   abbrev Re : Item 𝓤
-  Re = ‵ ((MutSlice (named 5) κ₅ u32).own_val xr (of-slice xr ∷ []))
+  Re = ‵ ((MutSlice (named 5) κ₅ u32).own_val xr (of_slice xr ∷ []))
 
   abbrev Lasts : List LentWatch → (ps ar re : List ℕ) → List (Item 𝓤)
   Lasts zs ps ar re = (‵ (flft κ q) ⊛ ‵ ftrue) ∷ ‵ (finally R γ zs) ∷ T1 ∷ ‵ (finally u32 xp.name ps) ∷ ‵ (finally u8 xa.name ar) ∷ ‵ (finally u32 xr.name re) ∷ []
@@ -204,35 +204,35 @@ module _ {M : Type 1} {𝓤 : Ura M} (𝓛 : Logic 𝓤) (mem : Memory → SProp
       owned ! u32 (Is u32) (uint_Makes 𝓛 w32) n _ i $ done !
 
   -- what each callee's triple binds outside, and that the caller has what it asks
-  abbrev to-ga : ℕ → GName → (Ga 𝓛 mem run).Ghost
-  to-ga ν δ = (((ν ∷ [], tt), (full_share, tt), tt, (x δ, tt), (s ∷ [], tt)), tt)
+  abbrev to_ga : ℕ → GName → (Ga 𝓛 mem run).Ghost
+  to_ga ν δ = (((ν ∷ [], tt), (full_share, tt), tt, (x δ, tt), (s ∷ [], tt)), tt)
 
-  goes-ga : (ν : ℕ) (δ : GName) → ent 𝓤 (sep 𝓤 (A.lft (ν ∷ []) full_share) (sem 𝓛 ((ShrSlice (named 0) (ν ∷ []) R).own_val (x δ) (s ∷ [])))) ((Ga 𝓛 mem run).pre (to-ga ν δ))
-  goes-ga ν δ =
+  goes_ga : (ν : ℕ) (δ : GName) → ent 𝓤 (sep 𝓤 (A.lft (ν ∷ []) full_share) (sem 𝓛 ((ShrSlice (named 0) (ν ∷ []) R).own_val (x δ) (s ∷ [])))) ((Ga 𝓛 mem run).pre (to_ga ν δ))
+  goes_ga ν δ =
       qed 𝓛 (‵ (flft (ν ∷ []) full_share) ∷ ‵ ((ShrSlice (named 0) (ν ∷ []) R).own_val (x δ) (s ∷ [])) ∷ []) ∵ nothing ! $ move ! (2 ∷ 0 ∷ []) $ fjoin ! $ nothing ! $ move ! (2 ∷ 0 ∷ []) $ join ! $ join ! $ frame ! $ done !
 
   abbrev CoArg : Type 0
   CoArg = Book × (Bor (List ℕ) × (Bor (List ℕ) × (Bor (List ℕ) × (Bor (List ℕ) × (Bor (List ℕ) × Unit {0})))))
 
-  abbrev co-a : Book → CoArg
-  co-a k = (k, (xp, (xa, (xs, (xq, (xr, tt))))))
+  abbrev co_a : Book → CoArg
+  co_a k = (k, (xp, (xa, (xs, (xq, (xr, tt))))))
 
-  abbrev co-κ : Lfts 5
-  co-κ = (κ₁, (κ₂, (κ₃, (κ₄, (κ₅, tt)))))
+  abbrev co_κ : Lfts 5
+  co_κ = (κ₁, (κ₂, (κ₃, (κ₄, (κ₅, tt)))))
 
-  abbrev to-co : Book → Val → (Co 𝓛 mem run g).Ghost
-  to-co k v = ((co-κ, (q₁, (q₂, (q₃, (q₄, (q₅, tt))))), tt, co-a k, (v ∷ [], (of-slice xp ∷ [], (of-slice xa ∷ [], (of-slice xs ∷ [], (of-slice xq ∷ [], (of-slice xr ∷ [], tt))))))), tt)
+  abbrev to_co : Book → Val → (Co 𝓛 mem run g).Ghost
+  to_co k v = ((co_κ, (q₁, (q₂, (q₃, (q₄, (q₅, tt))))), tt, co_a k, (v ∷ [], (of_slice xp ∷ [], (of_slice xa ∷ [], (of_slice xs ∷ [], (of_slice xq ∷ [], (of_slice xr ∷ [], tt))))))), tt)
 
-  goes-co : (k : Book) (v : Val) → Is Br k (v ∷ []) → ent 𝓤 (⋆ 𝓛 (T1 ∷ (Re ⊛ (Qu ⊛ (Se ⊛ Ar))) ∷ Pl ∷ [])) ((Co 𝓛 mem run g).pre (to-co k v))
-  goes-co k v is =
+  goes_co : (k : Book) (v : Val) → Is Br k (v ∷ []) → ent 𝓤 (⋆ 𝓛 (T1 ∷ (Re ⊛ (Qu ⊛ (Se ⊛ Ar))) ∷ Pl ∷ [])) ((Co 𝓛 mem run g).pre (to_co k v))
+  goes_co k v is =
       qed 𝓛 (T1 ∷ (Re ⊛ (Qu ⊛ (Se ⊛ Ar))) ∷ Pl ∷ []) ∵ move ! (1 ∷ []) $ split ! $ nothing ! $ move ! (1 ∷ 0 ∷ []) $ fjoin ! $ move ! (1 ∷ []) $ split ! $ move ! (0 ∷ 2 ∷ []) $ fjoin ! $ move ! (1 ∷ []) $ split ! $ move ! (0 ∷ 2 ∷ []) $ fjoin ! $
       move ! (1 ∷ 0 ∷ []) $ fjoin ! $ move ! (2 ∷ 0 ∷ []) $ fjoin ! $ owned ! Br (Is Br) (LL.makes B.the_type B'.the_plain 𝓛) k _ is $ fjoin ! $ move ! (1 ∷ 0 ∷ []) $ join ! $ frame ! $ done !
 
-  abbrev to-pu : Ending → (Pu 𝓛 mem run).Ghost
-  to-pu c = (((κ, tt), (q, tt), tt, (x γ, (c.at, (c.watch, tt))), (s ∷ [], (vint w64 c.at ∷ [], (vals c.watch, tt)))), tt)
+  abbrev to_pu : Ending → (Pu 𝓛 mem run).Ghost
+  to_pu c = (((κ, tt), (q, tt), tt, (x γ, (c.at, (c.watch, tt))), (s ∷ [], (vint w64 c.at ∷ [], (vals c.watch, tt)))), tt)
 
-  goes-pu : (c : Ending) → c.at < 2 ^ 64 → Is R c.watch (vals c.watch) → ent 𝓤 (sep 𝓤 (sem 𝓛 ((MutSlice (named 0) κ R).own_val (x γ) (s ∷ []))) (A.lft κ q)) ((Pu 𝓛 mem run).pre (to-pu c))
-  goes-pu c i i' =
+  goes_pu : (c : Ending) → c.at < 2 ^ 64 → Is R c.watch (vals c.watch) → ent 𝓤 (sep 𝓤 (sem 𝓛 ((MutSlice (named 0) κ R).own_val (x γ) (s ∷ []))) (A.lft κ q)) ((Pu 𝓛 mem run).pre (to_pu c))
+  goes_pu c i i' =
       qed 𝓛 (‵ ((MutSlice (named 0) κ R).own_val (x γ) (s ∷ [])) ∷ ‵ (flft κ q) ∷ []) ∵ nothing ! $ owned ! R (Is R) (makes 𝓛) c.watch _ i' $ fjoin ! $ owned ! usize (Is usize) (uint_Makes 𝓛 w64) c.at _ (refl, i) $ fjoin ! $
       move ! (1 ∷ 0 ∷ []) $ fjoin ! $ nothing ! $ move ! (2 ∷ 0 ∷ []) $ join ! $ join ! $ frame ! $ done !
 
@@ -253,11 +253,11 @@ module _ {M : Type 1} {𝓤 : Ura M} (𝓛 : Logic 𝓤) (mem : Memory → SProp
         -- [the token of ws; the other tokens; reply; question; section; area; places; ws; _19; …]
         lft_new ! tt (λ ν. move ! (8 ∷ 1 ∷ []) $
         use2 𝓛 (later (some (λ (δ : GName). ‵ ((ShrSlice (named 0) (ν ∷ []) R).own_val (x δ) (s ∷ [])) ⊛ ‵ (LentShared R κ (ν ∷ []) q γ b o ys)))) (lends_shared R κ (ν ∷ []) q γ b o 𝓛 (named 0) (named 0) ys) $ await ! tt $ pick ! (λ δ. split ! $
-        move ! (2 ∷ 0 ∷ []) $ use2 𝓛 (raw ((Ga 𝓛 mem run).pre (to-ga ν δ))) (goes-ga ν δ) $
+        move ! (2 ∷ 0 ∷ []) $ use2 𝓛 (raw ((Ga 𝓛 mem run).pre (to_ga ν δ))) (goes_ga ν δ) $
         -- [pre; what is lent; T1; reply; question; section; area; places; _19; …]
-        calls_at ! fm (Ga 𝓛 mem run) known-ga (to-ga ν δ) (and_then ! (load ! (from ! (stop !)) (look ! 26 refl)) (no_more !)) (λ v.
+        calls_at ! fm (Ga 𝓛 mem run) known-ga (to_ga ν δ) (and_then ! (load ! (from ! (stop !)) (look ! 26 refl)) (no_more !)) (λ v.
         use1 𝓛 (later (some (λ (r : Book). ((‵ (flft (ν ∷ []) full_share) ⊛ ‵ ftrue) ⊛ ‵ (Br.own r (v ∷ []))) ⊛ raw (ensured 𝓛 ga.ended (ga.clauses 𝓛 mem run) (ν ∷ [], tt) (x δ, tt) tt r)))) (id⊢ 𝓤 _) $ await ! tt $ pick ! (λ r.
-        split ! $ move ! (1 ∷ []) $ use1 𝓛 (raw (fact 𝓤 (Gathered r ys))) (ga-of 𝓛 mem run (ν ∷ []) (x δ) r) $ heard ! (Gathered r ys) (λ e₁. split ! $
+        split ! $ move ! (1 ∷ []) $ use1 𝓛 (raw (fact 𝓤 (Gathered r ys))) (ga_of 𝓛 mem run (ν ∷ []) (x δ) r) $ heard ! (Gathered r ys) (λ e₁. split ! $
         move ! (1 ∷ []) $ peeks ! Br (Is Br) (shows 𝓛 Br) r (v ∷ []) (λ is₁. land ! (from ! (stop !)) (init ! 33 refl ((LL.lawful B.the_type B'.the_laws 𝓛).typed r _ is₁).0) $ drop ! $
         -- [the token of ν; what is lent; T1; reply; question; section; area; places; _19; …]: places, area and reply are passed on
         assigns ! (addr ! (from ! (fld ! refl (hop ! (look_in ! 42 (sub ! 0 refl (whole !))) (stop !))))) (from ! (stop !)) (init ! 24 refl (tt, tt)) $
@@ -267,11 +267,11 @@ module _ {M : Type 1} {𝓤 : Ura M} (𝓛 : Logic 𝓤) (mem : Memory → SProp
         assigns ! (addr ! (from ! (fld ! refl (hop ! (look_in ! 34 (sub ! 0 refl (whole !))) (stop !))))) (from ! (stop !)) (init ! 16 refl (tt, tt)) $
         assigns ! (agg ! (and_then ! (load ! (from ! (stop !)) (look ! 16 refl)) (and_then ! (load ! (from ! (fld ! refl (stop !))) (look_in ! 34 (sub ! 1 refl (whole !)))) (no_more !)))) (from ! (stop !)) (init ! 14 refl (tt, (tt, (record { fits = room₅.0 }, tt)))) $
         -- the core
-        move ! (5 ∷ 6 ∷ []) $ join ! $ move ! (5 ∷ 0 ∷ []) $ join ! $ move ! (4 ∷ 0 ∷ []) $ join ! $ move ! (3 ∷ 0 ∷ 4 ∷ []) $ use3 𝓛 (raw ((Co 𝓛 mem run g).pre (to-co r v))) (goes-co r v is₁) $
+        move ! (5 ∷ 6 ∷ []) $ join ! $ move ! (5 ∷ 0 ∷ []) $ join ! $ move ! (4 ∷ 0 ∷ []) $ join ! $ move ! (3 ∷ 0 ∷ 4 ∷ []) $ use3 𝓛 (raw ((Co 𝓛 mem run g).pre (to_co r v))) (goes_co r v is₁) $
         -- [pre; the token of ν; what is lent; _19; …]
-        calls_at ! fm (Co 𝓛 mem run g) known-co (to-co r v) (and_then ! (load ! (from ! (stop !)) (look ! 27 refl)) (and_then ! (load ! (from ! (stop !)) (look ! 17 refl)) (and_then ! (load ! (from ! (stop !)) (look ! 13 refl)) (and_then ! (load ! (from ! (stop !)) (look ! 33 refl)) (and_then ! (load ! (from ! (stop !)) (look ! 31 refl)) (and_then ! (load ! (from ! (stop !)) (look ! 9 refl)) (no_more !))))))) (λ v₂.
-        use1 𝓛 (later (some (λ (c : Ending). (T1 ⊛ ‵ (Kr.own c (v₂ ∷ []))) ⊛ raw (ensured 𝓛 co.ended (core 𝓤 g) co-κ (co-a r) tt c)))) (id⊢ 𝓤 _) $ await ! tt $ pick ! (λ c.
-        split ! $ move ! (1 ∷ []) $ use1 𝓛 (some (λ (ws : Unit {0} × (List ℕ × (List ℕ × (Unit {0} × (Unit {0} × (List ℕ × Unit {0})))))). ‵ (lasts co.ended co-κ (co-a r) ws) ⊛ raw (fact 𝓤 (CoSays r c ws.1.0 ws.1.1.0 ws.1.1.1.1.1.0)))) (id⊢ 𝓤 _) $ pick ! (λ ws.
+        calls_at ! fm (Co 𝓛 mem run g) known-co (to_co r v) (and_then ! (load ! (from ! (stop !)) (look ! 27 refl)) (and_then ! (load ! (from ! (stop !)) (look ! 17 refl)) (and_then ! (load ! (from ! (stop !)) (look ! 13 refl)) (and_then ! (load ! (from ! (stop !)) (look ! 33 refl)) (and_then ! (load ! (from ! (stop !)) (look ! 31 refl)) (and_then ! (load ! (from ! (stop !)) (look ! 9 refl)) (no_more !))))))) (λ v₂.
+        use1 𝓛 (later (some (λ (c : Ending). (T1 ⊛ ‵ (Kr.own c (v₂ ∷ []))) ⊛ raw (ensured 𝓛 co.ended (core 𝓤 g) co_κ (co_a r) tt c)))) (id⊢ 𝓤 _) $ await ! tt $ pick ! (λ c.
+        split ! $ move ! (1 ∷ []) $ use1 𝓛 (some (λ (ws : Unit {0} × (List ℕ × (List ℕ × (Unit {0} × (Unit {0} × (List ℕ × Unit {0})))))). ‵ (lasts co.ended co_κ (co_a r) ws) ⊛ raw (fact 𝓤 (CoSays r c ws.1.0 ws.1.1.0 ws.1.1.1.1.1.0)))) (id⊢ 𝓤 _) $ pick ! (λ ws.
         split ! $ move ! (1 ∷ []) $ heard ! (CoSays r c ws.1.0 ws.1.1.0 ws.1.1.1.1.1.0) (λ e₂. fsplit ! $ drop ! $ fsplit ! $ move ! (1 ∷ []) $ fsplit ! $ move ! (1 ∷ []) $ fsplit ! $ drop ! $ fsplit ! $ drop ! $ fsplit ! $ move ! (1 ∷ []) $ drop ! $
         fsplit ! $ move ! (1 ∷ []) $ feq_l ! (λ lr. move ! (1 ∷ []) $ fsplit ! $ move ! (1 ∷ []) $ feq_l ! (λ la. move ! (2 ∷ []) $ fsplit ! $ move ! (1 ∷ []) $ feq_l ! (λ lp.
         -- [the last list of places; that of area; that of reply; the tokens and the result; the token of ν; what is lent; _19; …]
@@ -286,8 +286,8 @@ module _ {M : Type 1} {𝓤 : Ura M} (𝓛 : Logic 𝓤) (mem : Memory → SProp
         assigns ! (agg ! (and_then ! (load ! (from ! (stop !)) (look ! 9 refl)) (and_then ! (load ! (from ! (fld ! refl (stop !))) (look_in ! 43 (sub ! 1 refl (whole !)))) (no_more !)))) (from ! (stop !)) (init ! 7 refl (tt, (tt, (record { fits = room.0 }, tt)))) $
         -- `put_or`, which has the slice for good
         let fields = LL.owed K.the_type K'.the_laws c _ is₂ in
-        use2 𝓛 (raw ((Pu 𝓛 mem run).pre (to-pu c))) (goes-pu c fields.1.0.1 fields.1.1.0) $
-        calls_at ! fm (Pu 𝓛 mem run) known-pu (to-pu c) (and_then ! (load ! (from ! (stop !)) (look ! 6 refl)) (and_then ! (load ! (from ! (fld ! refl (stop !))) (look_in ! 28 (sub ! 1 refl (whole !)))) (and_then ! (load ! (from ! (fld ! refl (stop !))) (look_in ! 28 (sub ! 2 refl (whole !)))) (no_more !)))) (λ v₃.
+        use2 𝓛 (raw ((Pu 𝓛 mem run).pre (to_pu c))) (goes_pu c fields.1.0.1 fields.1.1.0) $
+        calls_at ! fm (Pu 𝓛 mem run) known-pu (to_pu c) (and_then ! (load ! (from ! (stop !)) (look ! 6 refl)) (and_then ! (load ! (from ! (fld ! refl (stop !))) (look_in ! 28 (sub ! 1 refl (whole !)))) (and_then ! (load ! (from ! (fld ! refl (stop !))) (look_in ! 28 (sub ! 2 refl (whole !)))) (no_more !)))) (λ v₃.
         use1 𝓛 (later (some (λ (u : Unit {0}). ((‵ (flft κ q) ⊛ ‵ ftrue) ⊛ ‵ (Nothing.own u (v₃ ∷ []))) ⊛ raw (ensured 𝓛 pu.ended (pu.clauses 𝓛 mem run) (κ, tt) (x γ, (c.at, (c.watch, tt))) tt u)))) (id⊢ 𝓤 _) $ await ! tt $ pick ! (λ u.
         split ! $ move ! (1 ∷ []) $ use1 𝓛 (some (λ (zs : List LentWatch × (Unit {0} × (Unit {0} × Unit {0}))). ‵ (lasts pu.ended (κ, tt) (x γ, (c.at, (c.watch, tt))) zs) ⊛ raw (fact 𝓤 (zs.0 ≡ set ys c.at c.watch)))) (id⊢ 𝓤 _) $ pick ! (λ zs.
         split ! $ move ! (1 ∷ []) $ heard ! (zs.0 ≡ set ys c.at c.watch) (λ e₃. fsplit ! $ fsplit ! $ move ! (1 ∷ []) $ feq_l ! (λ l.

@@ -71,30 +71,30 @@ row_fits l i h = omega (arith, h, rows_fit (length l))
 
 -- ---- the shelf
 module _ (x : LentState) where
-  pub watch-lent : (i : ℕ) → i < 16 → watch_at (meaning x) i ≡ watch_meant (get_or x.watches i blank)
+  pub watch_lent : (i : ℕ) → i < 16 → watch_at (meaning x) i ≡ watch_meant (get_or x.watches i blank)
   unfolding shelf_in
-  watch-lent i h = watches_at 16 x.watches i h
+  watch_lent i h = watches_at 16 x.watches i h
 
-  pub place-lent : (i : ℕ) → i < rows_read x.places → place_at (meaning x) i ≡ place_meant x.places i
+  pub place_lent : (i : ℕ) → i < rows_read x.places → place_at (meaning x) i ≡ place_meant x.places i
   unfolding shelf_in
-  place-lent i h = rows_at (rows_read x.places) x.places (replicate 64 blank_place) i (omega (arith, length-replicate 64 blank_place, (clamp_le 64 (row_count (length x.places))).0)) h
+  place_lent i h = rows_at (rows_read x.places) x.places (replicate 64 blank_place) i (omega (arith, length-replicate 64 blank_place, (clamp_le 64 (row_count (length x.places))).0)) h
 
-  pub past-lent : (i : ℕ) → rows_read x.places ≤ i → place_at (meaning x) i ≡ blank_place
+  pub past_lent : (i : ℕ) → rows_read x.places ≤ i → place_at (meaning x) i ≡ blank_place
   unfolding shelf_in
-  past-lent i h = rows_past (rows_read x.places) x.places (replicate 64 blank_place) i h ∙ replicate_at 64 i blank_place
+  past_lent i h = rows_past (rows_read x.places) x.places (replicate 64 blank_place) i h ∙ replicate_at 64 i blank_place
 
-  pub lent-watches : length (meaning x).watches ≡ 16
+  pub lent_watches : length (meaning x).watches ≡ 16
   unfolding shelf_in
-  lent-watches = watches_length 16 x.watches
+  lent_watches = watches_length 16 x.watches
 
-  pub lent-places : length (meaning x).places ≡ 64
+  pub lent_places : length (meaning x).places ≡ 64
   unfolding shelf_in
-  lent-places = rows_length (rows_read x.places) x.places (replicate 64 blank_place) ∙ length-replicate 64 blank_place
+  lent_places = rows_length (rows_read x.places) x.places (replicate 64 blank_place) ∙ length-replicate 64 blank_place
 
-  pub lent-records : (meaning x).records ≡ length x.watches
+  pub lent_records : (meaning x).records ≡ length x.watches
   unfolding shelf_in
-  lent-records = refl
+  lent_records = refl
 
-  pub lent-count : (meaning x).count ≡ row_count (length x.places)
+  pub lent_count : (meaning x).count ≡ row_count (length x.places)
   unfolding shelf_in
-  lent-count = refl
+  lent_count = refl

@@ -144,34 +144,34 @@ chained n s true r h g = g
 chained n s false r h g = h
 
 module _ (s : Shelf) (area : ℕ) where
-  pub opened-numbered : (a : Asked) (q : ℕ) → Numbered (opened s area a q).outcome
+  pub opened_numbered : (a : Asked) (q : ℕ) → Numbered (opened s area a q).outcome
   unfolding opened opened_in_range
-  opened-numbered a q = chained 14 s _ _ (omega arith) (chained 15 s _ _ (omega arith) (chained 19 s _ _ (omega arith) (chained 20 s _ _ (omega arith) (chained 21 s _ _ (omega arith) tt))))
+  opened_numbered a q = chained 14 s _ _ (omega arith) (chained 15 s _ _ (omega arith) (chained 19 s _ _ (omega arith) (chained 20 s _ _ (omega arith) (chained 21 s _ _ (omega arith) tt))))
 
-  pub closed-numbered : (a : Asked) → Numbered (closed s area a).outcome
+  pub closed_numbered : (a : Asked) → Numbered (closed s area a).outcome
   unfolding closed
-  closed-numbered a = chained 14 s _ _ (omega arith) (chained 17 s _ _ (omega arith) tt)
+  closed_numbered a = chained 14 s _ _ (omega arith) (chained 17 s _ _ (omega arith) tt)
 
-  pub status-numbered : (a : Asked) → Numbered (status_after s area a).outcome
+  pub status_numbered : (a : Asked) → Numbered (status_after s area a).outcome
   unfolding status_after
-  status-numbered a = chained 14 s _ _ (omega arith) (chained 17 s _ _ (omega arith) tt)
+  status_numbered a = chained 14 s _ _ (omega arith) (chained 17 s _ _ (omega arith) tt)
 
-  pub fetched-numbered : (a : Asked) (m : ℕ) → Numbered (fetched s area a m).outcome
+  pub fetched_numbered : (a : Asked) (m : ℕ) → Numbered (fetched s area a m).outcome
   unfolding fetched fetched_from
-  fetched-numbered a m = chained 14 s _ _ (omega arith) (chained 17 s _ _ (omega arith) (chained 22 s _ _ (omega arith) tt))
+  fetched_numbered a m = chained 14 s _ _ (omega arith) (chained 17 s _ _ (omega arith) (chained 22 s _ _ (omega arith) tt))
 
-  done-numbered : (o : Outcome ℕ) → Numbered o → Numbered (done o)
-  done-numbered (refused k) h = h
-  done-numbered (resulted i) h = tt
+  done_numbered : (o : Outcome ℕ) → Numbered o → Numbered (done o)
+  done_numbered (refused k) h = h
+  done_numbered (resulted i) h = tt
 
-  pub delivered-numbered : (pid : ℕ) (b : List ℕ) → Numbered (delivered s area pid b).outcome
+  pub delivered_numbered : (pid : ℕ) (b : List ℕ) → Numbered (delivered s area pid b).outcome
   unfolding delivered delivering arriving by_judge received for_owner received_at
-  delivered-numbered pid b = done-numbered (delivering s area pid b).outcome (chained 14 s _ _ (omega arith) (chained 15 s _ _ (omega arith) (by-judge (judged b) (judged_numbered b))))
+  delivered_numbered pid b = done_numbered (delivering s area pid b).outcome (chained 14 s _ _ (omega arith) (chained 15 s _ _ (omega arith) (by_judge_lem (judged b) (judged_numbered b))))
     where
-      by-owner : (h : Header) (o : Outcome ℕ) → Numbered o → Numbered (for_owner s h (length b) o).outcome
-      by-owner h (refused k) g = g
-      by-owner h (resulted w) g = tt
+      by_owner : (h : Header) (o : Outcome ℕ) → Numbered o → Numbered (for_owner s h (length b) o).outcome
+      by_owner h (refused k) g = g
+      by_owner h (resulted w) g = tt
 
-      by-judge : (o : Outcome Header) → Numbered o → Numbered (by_judge s pid b o).outcome
-      by-judge (refused k) g = g
-      by-judge (resulted h) g = by-owner h (owner_in s.watches s.records (key_in pid b) h) (owner_numbered s.watches s.records (key_in pid b) h)
+      by_judge_lem : (o : Outcome Header) → Numbered o → Numbered (by_judge s pid b o).outcome
+      by_judge_lem (refused k) g = g
+      by_judge_lem (resulted h) g = by_owner h (owner_in s.watches s.records (key_in pid b) h) (owner_numbered s.watches s.records (key_in pid b) h)

@@ -11,7 +11,7 @@ use borrow.Author.Tests.{eqb-true, eqb-false, ltb-true, ltb-false, le-ltb, lt-lt
 use lib.Dec.{eqb, ltb}
 use lib.ListN.{get_or, set, length, length-set}
 use lib.Seq.{ext_get_or, get_or-set_same, get_or-set_other}
-use Rattle.logic.proofs.LoopLaws.{below_suc, both, first_none, first-split, true_false}
+use Rattle.logic.proofs.LoopLaws.{below_suc, both, first_none, first_split, true_false}
 use Rattle.logic.specs.Choices.{pick}
 use Rattle.logic.specs.Loops.{one}
 use Rattle.shelf_state.specs.Records.{watch_at, place_at, blank_watch, blank_place}
@@ -22,7 +22,7 @@ use Rattle.lent_memory.specs.Changes.{changed_at, compared, equal_place, equal_w
 use Rattle.lent_memory.specs.Meaning.{LentState, blank, clamp, is_on, lent, meaning, number_at, lent_record, place_meant, row_count, watch_meant}
 use Rattle.lent_memory.specs.declared.records.LentWatch.{LentWatch}
 use Rattle.lent_laws.proofs.EqualLaws.{from_place, from_watch, place_self, watch_self}
-use Rattle.lent_laws.proofs.MeaningLaws.{back, lent-count, lent-places, lent-records, lent-watches, on_one, past-lent, place-lent, row_fits, rows_read, watch-lent}
+use Rattle.lent_laws.proofs.MeaningLaws.{back, lent_count, lent_places, lent_records, lent_watches, on_one, past_lent, place_lent, row_fits, rows_read, watch_lent}
 
 -- ---- a shelf that did not change
 pub kept_rows : (n : ℕ) (s : Shelf) (l : List ℕ) → rows_below n s s l ≡ l
@@ -108,21 +108,21 @@ module _ (s t : Shelf) (l : List ℕ) where
   below_row n m true i h = refl
   below_row n m false i h = rows_eq (write_row m n (place_at t n)) m i (λ x g g'. off_row m n (place_at t n) x (inl (omega (arith, h, g'))))
 
-  this-row : (n : ℕ) (m : List ℕ) (b : Bool) → equal_place (place_at s n) (place_at t n) ≡ b → n * 5 + 5 ≤ length m → NarrowPlace (place_at t n) → place_meant m n ≡ place_at s n → place_meant (pick b m (write_row m n (place_at t n))) n ≡ place_at t n
-  this-row n m true e h w r = r ∙ from_place (place_at s n) (place_at t n) e
-  this-row n m false e h w r = own_row m n (place_at t n) h w
+  this_row : (n : ℕ) (m : List ℕ) (b : Bool) → equal_place (place_at s n) (place_at t n) ≡ b → n * 5 + 5 ≤ length m → NarrowPlace (place_at t n) → place_meant m n ≡ place_at s n → place_meant (pick b m (write_row m n (place_at t n))) n ≡ place_at t n
+  this_row n m true e h w r = r ∙ from_place (place_at s n) (place_at t n) e
+  this_row n m false e h w r = own_row m n (place_at t n) h w
 
-  rows-after : (n : ℕ) → ((i : ℕ) → i < n → i * 5 + 5 ≤ length l) → ((i : ℕ) → i < n → place_meant l i ≡ place_at s i) → ((i : ℕ) → i < n → NarrowPlace (place_at t i))
+  rows_after_lem : (n : ℕ) → ((i : ℕ) → i < n → i * 5 + 5 ≤ length l) → ((i : ℕ) → i < n → place_meant l i ≡ place_at s i) → ((i : ℕ) → i < n → NarrowPlace (place_at t i))
       → (i : ℕ) → i < n → place_meant (rows_below n s t l) i ≡ place_at t i
   unfolding rows_below row_put
-  rows-after zero f g w i h = absurd (not-suc-le-zero h)
-  rows-after (suc n) f g w i h =
+  rows_after_lem zero f g w i h = absurd (not-suc-le-zero h)
+  rows_after_lem (suc n) f g w i h =
       let m = rows_below n s t l in
       let b = equal_place (place_at s n) (place_at t n) in
       ⊎_elim
-      (λ k. below_row n m b i k ∙ rows-after n (λ j q. f j (omega (arith, q))) (λ j q. g j (omega (arith, q))) (λ j q. w j (omega (arith, q))) i k)
+      (λ k. below_row n m b i k ∙ rows_after_lem n (λ j q. f j (omega (arith, q))) (λ j q. g j (omega (arith, q))) (λ j q. w j (omega (arith, q))) i k)
       (λ k. subst (λ (j : ℕ). place_meant (pick b m (write_row m n (place_at t n))) j ≡ place_at t j) (sym k)
-      (this-row n m b refl (omega (arith, f n (omega arith), written_length n s t l)) (w n (omega arith)) (rows_eq m l n (λ x q q'. above n x q) ∙ g n (omega arith))))
+      (this_row n m b refl (omega (arith, f n (omega arith), written_length n s t l)) (w n (omega arith)) (rows_eq m l n (λ x q q'. above n x q) ∙ g n (omega arith))))
       (below_suc i n h)
 
 -- ---- a shelf that one call makes of the lent one: only record j may differ, and each place fits its row
@@ -156,16 +156,16 @@ module _ (x : LentState) (t : Shelf) (j : ℕ) (st : Made x t j) (area : List �
   abbrev ws' : List LentWatch
   ws' = records_after s t ws
 
-  m-is : m ≡ length ws
-  m-is = let e = lent-records x in rw (le-ltb 16 s.records (omega (arith, e, st.few))) e
+  m_is : m ≡ length ws
+  m_is = let e = lent_records x in rw (le-ltb 16 s.records (omega (arith, e, st.few))) e
 
   put_some : f < m → ws' ≡ set ws f (lent_record (watch_at t f))
   unfolding record_put
   put_some h = rw (lt-ltb f m h)
 
-  put-none : m ≤ f → ws' ≡ ws
+  put_none : m ≤ f → ws' ≡ ws
   unfolding record_put
-  put-none h = rw (le-ltb f m h)
+  put_none h = rw (le-ltb f m h)
 
   -- a record that is not the changed one
   unchanged : not (equal_watch (watch_at s f) (watch_at t f)) ≡ true → (i : ℕ) → (i ≡ f → ⊥) → watch_at t i ≡ watch_at s i
@@ -176,35 +176,35 @@ module _ (x : LentState) (t : Shelf) (j : ℕ) (st : Made x t j) (area : List �
       (λ e. st.only i (eqb-false i j e))
       (both (eqb i j))
 
-  after-some : f < m → not (equal_watch (watch_at s f) (watch_at t f)) ≡ true → (i : ℕ) → i < 16 → watch_meant (get_or ws' i blank) ≡ watch_at t i
-  after-some h p i g =
+  after_some : f < m → not (equal_watch (watch_at s f) (watch_at t f)) ≡ true → (i : ℕ) → i < 16 → watch_meant (get_or ws' i blank) ≡ watch_at t i
+  after_some h p i g =
       let w = lent_record (watch_at t f) in
       ap (λ (v : List LentWatch). watch_meant (get_or v i blank)) (put_some h)
       ∙ ⊎_elim
       (λ e. let q : i ≡ f = eqb-true i f e in
-      subst (λ (k : ℕ). watch_meant (get_or (set ws f w) k blank) ≡ watch_at t k) (sym q) (ap watch_meant (get_or-set_same ws f w blank (omega (arith, h, m-is))) ∙ back (watch_at t f)))
-      (λ e. let ne = eqb-false i f e in ap watch_meant (get_or-set_other ws f i w blank ne) ∙ sym (watch-lent x i g) ∙ sym (unchanged p i ne))
+      subst (λ (k : ℕ). watch_meant (get_or (set ws f w) k blank) ≡ watch_at t k) (sym q) (ap watch_meant (get_or-set_same ws f w blank (omega (arith, h, m_is))) ∙ back (watch_at t f)))
+      (λ e. let ne = eqb-false i f e in ap watch_meant (get_or-set_other ws f i w blank ne) ∙ sym (watch_lent x i g) ∙ sym (unchanged p i ne))
       (both (eqb i f))
 
   after_none : f ≡ m → ((k : ℕ) → k < m → not (equal_watch (watch_at s k) (watch_at t k)) ≡ false) → (i : ℕ) → i < 16 → watch_meant (get_or ws' i blank) ≡ watch_at t i
   after_none h p i g =
-      ap (λ (v : List LentWatch). watch_meant (get_or v i blank)) (put-none (omega (arith, h)))
-      ∙ sym (watch-lent x i g)
+      ap (λ (v : List LentWatch). watch_meant (get_or v i blank)) (put_none (omega (arith, h)))
+      ∙ sym (watch_lent x i g)
       ∙ ⊎_elim
-      (λ e. let q : i ≡ j = eqb-true i j e in from_watch (watch_at s i) (watch_at t i) (not-false _ (p i (omega (arith, q, st.below, m-is)))))
+      (λ e. let q : i ≡ j = eqb-true i j e in from_watch (watch_at s i) (watch_at t i) (not-false _ (p i (omega (arith, q, st.below, m_is)))))
       (λ e. sym (st.only i (eqb-false i j e)))
       (both (eqb i j))
 
-  after-watch : (i : ℕ) → i < 16 → watch_meant (get_or ws' i blank) ≡ watch_at t i
-  after-watch i g = ⊎_elim (λ w. after-some w.0 w.1 i g) (λ w. after_none w.0 w.1 i g) (first-split (λ i. not (equal_watch (watch_at s i) (watch_at t i))) m)
+  after_watch : (i : ℕ) → i < 16 → watch_meant (get_or ws' i blank) ≡ watch_at t i
+  after_watch i g = ⊎_elim (λ w. after_some w.0 w.1 i g) (λ w. after_none w.0 w.1 i g) (first_split (λ i. not (equal_watch (watch_at s i) (watch_at t i))) m)
 
-  pick-length : (b : Bool) (v : List LentWatch) → length v ≡ length ws → length (pick b v ws) ≡ length ws
-  pick-length true v e = e
-  pick-length false v e = refl
+  pick_length : (b : Bool) (v : List LentWatch) → length v ≡ length ws → length (pick b v ws) ≡ length ws
+  pick_length true v e = e
+  pick_length false v e = refl
 
-  records-length : length ws' ≡ length ws
+  records_length : length ws' ≡ length ws
   unfolding record_put
-  records-length = pick-length (ltb f m) (set ws f (lent_record (watch_at t f))) (length-set ws f (lent_record (watch_at t f)))
+  records_length = pick_length (ltb f m) (set ws f (lent_record (watch_at t f))) (length-set ws f (lent_record (watch_at t f)))
 
   abbrev l' : List ℕ
   l' = rows_after s t l
@@ -216,28 +216,28 @@ module _ (x : LentState) (t : Shelf) (j : ℕ) (st : Made x t j) (area : List �
   same_read = ap (λ (n : ℕ). clamp 64 (row_count n)) same_length
 
   reads : clamp 64 s.count ≡ rows_read l
-  reads = ap (clamp 64) (lent-count x)
+  reads = ap (clamp 64) (lent_count x)
 
-  after-place : (i : ℕ) → i < rows_read l → place_meant l' i ≡ place_at t i
-  after-place i h = ap (λ (n : ℕ). place_meant (rows_below n s t l) i) reads ∙ rows-after s t l (rows_read l) (row_fits l) (λ k g. sym (place-lent x k g)) st.narrow i h
+  after_place : (i : ℕ) → i < rows_read l → place_meant l' i ≡ place_at t i
+  after_place i h = ap (λ (n : ℕ). place_meant (rows_below n s t l) i) reads ∙ rows_after_lem s t l (rows_read l) (row_fits l) (λ k g. sym (place_lent x k g)) st.narrow i h
 
   abbrev x' : LentState
   x' = lent ws' l' area
 
-  places-at : (i : ℕ) → place_at (meaning x') i ≡ place_at t i
-  places-at i = ⊎_elim
-      (λ e. let h : i < rows_read l = ltb-true i (rows_read l) e in place-lent x' i (subst (λ (n : ℕ). i < n) (sym same_read) h) ∙ after-place i h)
-      (λ e. let h : rows_read l ≤ i = ltb-false i (rows_read l) e in past-lent x' i (subst (λ (n : ℕ). n ≤ i) (sym same_read) h) ∙ sym (st.rest i h))
+  places_at : (i : ℕ) → place_at (meaning x') i ≡ place_at t i
+  places_at i = ⊎_elim
+      (λ e. let h : i < rows_read l = ltb-true i (rows_read l) e in place_lent x' i (subst (λ (n : ℕ). i < n) (sym same_read) h) ∙ after_place i h)
+      (λ e. let h : rows_read l ≤ i = ltb-false i (rows_read l) e in past_lent x' i (subst (λ (n : ℕ). n ≤ i) (sym same_read) h) ∙ sym (st.rest i h))
       (both (ltb i (rows_read l)))
 
-  watches-same : (meaning x').watches ≡ t.watches
-  watches-same = ext_get_or blank_watch (meaning x').watches t.watches (lent-watches x' ∙ sym st.watches_16) (λ i h. let g : i < 16 = subst (λ (n : ℕ). i < n) (lent-watches x') h in watch-lent x' i g ∙ after-watch i g)
+  watches_same : (meaning x').watches ≡ t.watches
+  watches_same = ext_get_or blank_watch (meaning x').watches t.watches (lent_watches x' ∙ sym st.watches_16) (λ i h. let g : i < 16 = subst (λ (n : ℕ). i < n) (lent_watches x') h in watch_lent x' i g ∙ after_watch i g)
 
   places_same : (meaning x').places ≡ t.places
-  places_same = ext_get_or blank_place (meaning x').places t.places (lent-places x' ∙ sym st.places_64) (λ i h. places-at i)
+  places_same = ext_get_or blank_place (meaning x').places t.places (lent_places x' ∙ sym st.places_64) (λ i h. places_at i)
 
   pub trip : meaning (lent (records_after (meaning x) t x.watches) (rows_after (meaning x) t x.places) area) ≡ t
   trip =
-      let r : (meaning x').records ≡ t.records = lent-records x' ∙ records-length ∙ sym st.records in
-      let c : (meaning x').count ≡ t.count = lent-count x' ∙ ap row_count same_length ∙ sym st.count in
-      λ z. record { watches = watches-same z; records = r z; places = places_same z; count = c z }
+      let r : (meaning x').records ≡ t.records = lent_records x' ∙ records_length ∙ sym st.records in
+      let c : (meaning x').count ≡ t.count = lent_count x' ∙ ap row_count same_length ∙ sym st.count in
+      λ z. record { watches = watches_same z; records = r z; places = places_same z; count = c z }

@@ -8,7 +8,7 @@ use borrow.Author.Tests.{ltb-true}
 use lib.Dec.{eqb}
 use lib.ListN.{length, set}
 use Rattle.logic.proofs.CountLaws.{count_upto}
-use Rattle.logic.proofs.LoopLaws.{any-first, first-has}
+use Rattle.logic.proofs.LoopLaws.{any_first, first_has}
 use Rattle.logic.specs.Choices.{if_eq, pick}
 use Rattle.part.specs.declared.Part.{Part}
 use Rattle.shelf_state.proofs.RecordLaws.{holds_parts}
@@ -54,7 +54,7 @@ unfolding status_after status_of held_numbers
 status_small s area a = small_status 14 s (obeys s area) _ (λ o. small_status 17 s (watched s a) _ (λ w.
     let i = watch_of s a in
     let u = rules s area o in
-    let h : i < s.records = ltb-true _ _ (sym (any-first (λ i. is_of (watch_at s i) a) s.records) ∙ w) in
+    let h : i < s.records = ltb-true _ _ (sym (any_first (λ i. is_of (watch_at s i) a) s.records) ∙ w) in
     let live = found_live s a i refl h in
     small_heard (watch_at s i).edition.heard _ _ (λ e.
     let k = u.last_below i h live e in
@@ -73,6 +73,6 @@ part_small s area a m = small_part 14 s (obeys s area) _ (λ o. small_part 17 s 
     let i = place_of s (watch_of s a) m in
     let u = rules s area o in
     let p : ℕ → Bool = λ j. holds (place_at s j) (watch_of s a) m in
-    let h : i < s.count = ltb-true _ _ (sym (any-first p s.count) ∙ e) in
-    let g = (holds_parts (place_at s i) (watch_of s a) m (first-has p s.count h)).0 in
+    let h : i < s.count = ltb-true _ _ (sym (any_first p s.count) ∙ e) in
+    let g = (holds_parts (place_at s i) (watch_of s a) m (first_has p s.count h)).0 in
     (omega (arith, h, u.size.count_64), omega (arith, u.short i h g)))))

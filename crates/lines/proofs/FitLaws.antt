@@ -17,7 +17,7 @@ use Rattle.kind.specs.declared.Kind.{Kind}
 use Rattle.kind.specs.declared.Kind.TheVariants.{Mgt, Tvct, Rrt, Eit, Ett}
 use Rattle.kind.specs.declared.Found.{Found}
 use Rattle.kind.specs.declared.Found.TheVariants.{Is, Nothing}
-use Rattle.kind.specs.Kinds.{limits_of, kind_of}
+use Rattle.kind.specs.Kinds.{limitsOf, kind_of}
 use Rattle.format.specs.Repeats.{Bytes}
 use Rattle.format.specs.Laws.OfBytes.{part_bytes}
 use Rattle.format.specs.Laws.OfValues.{vals_fit}
@@ -88,7 +88,7 @@ abbrev Told : Outcome Header → Type 0
 Told (refused k) = k < 256
 Told (resulted h) = (h.extension < 65536) × (h.version < 32) × (h.number < 256) × (h.last < 256)
 
-zero_few : (k : Kind) → number_of (limits_of k).zero_refusal < 256
+zero_few : (k : Kind) → number_of (limitsOf k).zero_refusal < 256
 zero_few Mgt = omega arith
 zero_few Tvct = omega arith
 zero_few Rrt = omega arith
@@ -96,41 +96,41 @@ zero_few Eit = omega arith
 zero_few Ett = omega arith
 
 module _ (s : List ℕ) (z : Bytes s) where
-  numbers-told : (k : Kind) → Told (number_tests (limits_of k) k s)
+  numbers_told : (k : Kind) → Told (number_tests (limitsOf k) k s)
   unfolding number_tests
-  numbers-told k =
+  numbers_told k =
       either_way Told _ _ _ (zero_few k)
       (either_way Told 8 _ _ (omega arith) (either_way Told 8 _ _ (omega arith) (omega (arith, z 3, z 4), omega arith, z 6, z 7)))
 
-  lengths-told : (k : Kind) → Told (length_tests (limits_of k) k s)
+  lengths_told : (k : Kind) → Told (length_tests (limitsOf k) k s)
   unfolding length_tests checksum_test
-  lengths-told k =
+  lengths_told k =
       either_way Told 3 _ _ (omega arith) (either_way Told 3 _ _ (omega arith)
       (either_way Told 4 _ _ (omega arith) (either_way Told 4 _ _ (omega arith)
-      (either_way Told 5 _ _ (omega arith) (either_way Told 6 _ _ (omega arith) (numbers-told k))))))
+      (either_way Told 5 _ _ (omega arith) (either_way Told 6 _ _ (omega arith) (numbers_told k))))))
 
-  kind-told : (f : Found) → Told (of_kind s f)
+  kind_told : (f : Found) → Told (of_kind s f)
   unfolding of_kind
-  kind-told Nothing = omega arith
-  kind-told (Is k) = lengths-told k
+  kind_told Nothing = omega arith
+  kind_told (Is k) = lengths_told k
 
-  header-told : Told (header_by kind_of s)
+  header_told : Told (header_by kind_of s)
   unfolding header_by
-  header-told = either_way Told 1 _ _ (omega arith) (kind-told (kind_of (byte_at s 0)))
+  header_told = either_way Told 1 _ _ (omega arith) (kind_told (kind_of (byte_at s 0)))
 
-  body-told : (w : Walk) (h : Header) → Told (resulted h) → Told (after (standing w) (λ e. resulted h))
+  body_told : (w : Walk) (h : Header) → Told (resulted h) → Told (after (standing w) (λ e. resulted h))
   unfolding after standing
-  body-told (To e) h t = t
-  body-told (Bad x) h t = omega arith
+  body_told (To e) h t = t
+  body_told (Bad x) h t = omega arith
 
   with_told : (o : Outcome Header) → Told o → Told (after o (λ h. body_test h s))
   unfolding after body_test
   with_told (refused k) t = t
-  with_told (resulted h) t = body-told (body_walk h.kind s) h t
+  with_told (resulted h) t = body_told (body_walk h.kind s) h t
 
-  section-told : Told (section_by kind_of s)
+  section_told : Told (section_by kind_of s)
   unfolding section_by
-  section-told = with_told (header_by kind_of s) header-told
+  section_told = with_told (header_by kind_of s) header_told
 
 -- ---- the lines of a section
 refusal_few : (k : ℕ) → k < 256 → length (refusal_shown k) ≤ 30
@@ -146,9 +146,9 @@ kind_few Eit = omega arith
 kind_few Ett = omega arith
 
 module _ (pid : ℕ) (h : Header) (p : pid < 65536) (t : Told (resulted h)) where
-  key-few : length (key_shown pid h) ≤ 51
+  key_few : length (key_shown pid h) ≤ 51
   unfolding key_shown
-  key-few =
+  key_few =
       let pids = field (ascii " pid ") pid in
       omega (
         arith,
@@ -159,9 +159,9 @@ module _ (pid : ℕ) (h : Header) (p : pid < 65536) (t : Told (resulted h)) wher
         number_few h.extension (omega arith),
       )
 
-  edition-few : length (edition_shown h) ≤ 64
+  edition_few : length (edition_shown h) ≤ 64
   unfolding edition_shown
-  edition-few =
+  edition_few =
       let number = field (ascii " ") h.number in
       let last = field (ascii "/") h.last in
       omega (
@@ -174,9 +174,9 @@ module _ (pid : ℕ) (h : Header) (p : pid < 65536) (t : Told (resulted h)) wher
       )
 
 module _ (s : List ℕ) (z : Bytes s) where
-  events-few : (at : ℕ) → Events s (count_at s at) (first_at at) → length (events_shown s at) ≤ 29 + 48 * length s
+  events_few : (at : ℕ) → Events s (count_at s at) (first_at at) → length (events_shown s at) ≤ 29 + 48 * length s
   unfolding events_shown
-  events-few at v =
+  events_few at v =
       let count = field (ascii " events ") (count_at s at) in
       let lines = event_lines s (count_at s at) (first_at at) in
       omega (
@@ -186,34 +186,34 @@ module _ (s : List ℕ) (z : Bytes s) where
         lines_few s (count_at s at) (first_at at) v,
       )
 
-  rest-few : (h : Header) → section_by kind_of s ≡ resulted h → (k : Kind) → h.kind ≡ k → length (rest_shown s k) ≤ 29 + 48 * length s
+  rest_few : (h : Header) → section_by kind_of s ≡ resulted h → (k : Kind) → h.kind ≡ k → length (rest_shown s k) ≤ 29 + 48 * length s
   unfolding rest_shown
-  rest-few h p Mgt e = omega arith
-  rest-few h p Tvct e = omega arith
-  rest-few h p Rrt e = omega arith
-  rest-few h p Eit e = let at = (limits_of Eit).body in events-few at (section_events s h at p e (ap (λ (k : Kind). (limits_of k).body) (sym e)))
-  rest-few h p Ett e = omega arith
+  rest_few h p Mgt e = omega arith
+  rest_few h p Tvct e = omega arith
+  rest_few h p Rrt e = omega arith
+  rest_few h p Eit e = let at = (limitsOf Eit).body in events_few at (section_events s h at p e (ap (λ (k : Kind). (limitsOf k).body) (sym e)))
+  rest_few h p Ett e = omega arith
 
-  outcome-few : (pid : ℕ) → pid < 65536 → (o : Outcome Header) → section_by kind_of s ≡ o → Told o
+  outcome_few : (pid : ℕ) → pid < 65536 → (o : Outcome Header) → section_by kind_of s ≡ o → Told o
       → length (outcome_shown pid s o) ≤ 144 + 48 * length s
   unfolding outcome_shown
-  outcome-few pid p (refused k) e t = omega (arith, refusal_few k (omega arith))
-  outcome-few pid p (resulted h) e t =
+  outcome_few pid p (refused k) e t = omega (arith, refusal_few k (omega arith))
+  outcome_few pid p (resulted h) e t =
       let rest = rest_shown s h.kind in
       omega (
         arith,
         length-append (key_shown pid h) (edition_shown h ++ rest),
         length-append (edition_shown h) rest,
-        key-few pid h p t,
-        edition-few pid h p t,
-        rest-few h e h.kind refl,
+        key_few pid h p t,
+        edition_few pid h p t,
+        rest_few h e h.kind refl,
       )
 
-  section-few : (pid : ℕ) → pid < 65536 → length (section_shown pid s) ≤ 144 + 48 * length s
+  section_few : (pid : ℕ) → pid < 65536 → length (section_shown pid s) ≤ 144 + 48 * length s
   unfolding section_shown outcome_shown
-  section-few pid p =
+  section_few pid p =
       either_way (λ o. length (outcome_shown pid s o) ≤ 144 + 48 * length s) 15 _ (section_by kind_of s)
-      (omega (arith, refusal_few 15 (omega arith))) (outcome-few pid p (section_by kind_of s) refl (section-told s z))
+      (omega (arith, refusal_few 15 (omega arith))) (outcome_few pid p (section_by kind_of s) refl (section_told s z))
 
 -- ---- a record
 pub last_few : (n : ℕ) → n < 2 ^ 64 → length (last_line n) ≤ 25
@@ -235,5 +235,5 @@ record_few n r z h =
       length-append (decimal n) (section_shown (pid_in r) s),
       number_few n h,
       length-take size (drop 4 r),
-      section-few s (part_bytes r size 4 z) (pid_in r) (omega (arith, z 2, z 3)),
+      section_few s (part_bytes r size 4 z) (pid_in r) (omega (arith, z 2, z 3)),
     )

@@ -12,7 +12,7 @@ use Rattle.listing.specs.declared.Next.TheVariants.{Record, Wait}
 use Rattle.listing.specs.declared.Stepped.{Stepped}
 use Rattle.listing.specs.Steps.{step_of, Tells}
 use Rattle.listing.specs.Runs.{Steps, all_steps}
-use Rattle.listing.proofs.NextLaws.{Alike, record-taken, wait-few, on-behind, wait-here}
+use Rattle.listing.proofs.NextLaws.{Alike, record_taken, wait_few, on_behind, wait_here}
 use Rattle.lister.specs.Reading.{in_hand, StepsTaken}
 use Rattle.lister.specs.declared.Answered.{Answered}
 
@@ -30,13 +30,13 @@ module _ (number : ℕ) (s : List ℕ) (i : Input) (n at : ℕ) {l e : List ℕ}
   -- a record takes some of the bytes in hand
   pub takes : r.next ≡ Record → at ≤ length s → (0 < r.taken) × (at + r.taken ≤ length s)
   takes q h =
-      let f = record-taken n (drop at s) i (sym t.next ∙ q) in
+      let f = record_taken n (drop at s) i (sym t.next ∙ q) in
       (omega (arith, f.0, t.taken), omega (arith, f.1, t.taken, h, length-drop at s))
 
-  pub a-record-on : r.next ≡ Record → Alike (all_steps number s i) (all_steps n (drop at s) i)
+  pub a_record_on : r.next ≡ Record → Alike (all_steps number s i) (all_steps n (drop at s) i)
       → Alike (all_steps number s i) (all_steps (n + 1) (drop (at + r.taken) s) i)
-  a-record-on q p =
-      let a = onward p (on-behind n (drop at s) i (sym t.next ∙ q)) in
+  a_record_on q p =
+      let a = onward p (on_behind n (drop at s) i (sym t.next ∙ q)) in
       let d : drop (step_of n (drop at s) i).taken (drop at s) ≡ drop (at + r.taken) s =
       ap (λ (k : ℕ). drop k (drop at s)) (sym t.taken) ∙ drop-drop r.taken at s in
       rw add-one (subst (λ (x : List ℕ). Alike (all_steps number s i) (all_steps (suc n) x i)) d a)
@@ -45,10 +45,10 @@ module _ (number : ℕ) (s : List ℕ) (i : Input) (n at : ℕ) {l e : List ℕ}
       → StepsTaken number s i (record { number = n; taken = at; more = true })
   stands q h p =
       let w = sym t.next ∙ q in
-      let here = wait-here n (drop at s) i w in
+      let here = wait_here n (drop at s) i w in
       record {
         within = h;
-        few = omega (arith, wait-few n (drop at s) i w, length-drop at s);
+        few = omega (arith, wait_few n (drop at s) i w, length-drop at s);
         number = p.number ∙ ap (λ (x : Steps). x.number) here;
         held = p.held ∙ ap (λ (x : Steps). x.held) here;
         next = p.next ∙ ap (λ (x : Steps). x.next) here;

@@ -21,68 +21,68 @@ pub data Front (s : List ℕ) : Type 0 where
   found : head_size + length_in s ≤ length s → mark_in s ≡ 0xA55A → Front s
 
 module _ (s : List ℕ) where
-  few-whole : length s < head_size → false ≡ whole s
+  few_whole : length s < head_size → false ≡ whole s
   unfolding whole
-  few-whole h = lt_yes (length s) head_size false _ h refl
+  few_whole h = lt_yes (length s) head_size false _ h refl
 
   module _ (long : head_size ≤ length s) where
-    pub wrong-whole : (mark_in s ≡ 0xA55A → ⊥) → false ≡ whole s
+    pub wrong_whole : (mark_in s ≡ 0xA55A → ⊥) → false ≡ whole s
     unfolding whole
-    wrong-whole w = lt_no (length s) head_size false _ long (eq_no (mark_in s) 0xA55A _ false w refl)
+    wrong_whole w = lt_no (length s) head_size false _ long (eq_no (mark_in s) 0xA55A _ false w refl)
 
-    pub wrong-to-come : (mark_in s ≡ 0xA55A → ⊥) → 0 ≡ to_come s
+    pub wrong_to_come : (mark_in s ≡ 0xA55A → ⊥) → 0 ≡ to_come s
     unfolding to_come
-    wrong-to-come w = lt_no (length s) head_size 0 _ long (eq_no (mark_in s) 0xA55A (length_in s) 0 w refl)
+    wrong_to_come w = lt_no (length s) head_size 0 _ long (eq_no (mark_in s) 0xA55A (length_in s) 0 w refl)
 
-    pub right-to-come : mark_in s ≡ 0xA55A → length_in s ≡ to_come s
+    pub right_to_come : mark_in s ≡ 0xA55A → length_in s ≡ to_come s
     unfolding to_come
-    right-to-come r = lt_no (length s) head_size 0 _ long (eq_yes (mark_in s) 0xA55A (length_in s) 0 r refl)
+    right_to_come r = lt_no (length s) head_size 0 _ long (eq_yes (mark_in s) 0xA55A (length_in s) 0 r refl)
 
     by_length : mark_in s ≡ 0xA55A → (t : Bool) → ltb (length s) (head_size + length_in s) ≡ t → Front s
     by_length m true h =
         let g = ltb-true (length s) (head_size + length_in s) h in
-        short (omega (arith, g, right-to-come m)) (sym (cut_off s long m g))
+        short (omega (arith, g, right_to_come m)) (sym (cut_off s long m g))
     by_length m false h = found (ltb-false (length s) (head_size + length_in s) h) m
 
-    by-mark : (t : Bool) → eqb (mark_in s) 0xA55A ≡ t → Front s
-    by-mark true h = by_length (eqb-true (mark_in s) 0xA55A h) _ refl
-    by-mark false h = wrong long (eqb-false (mark_in s) 0xA55A h)
+    by_mark : (t : Bool) → eqb (mark_in s) 0xA55A ≡ t → Front s
+    by_mark true h = by_length (eqb-true (mark_in s) 0xA55A h) _ refl
+    by_mark false h = wrong long (eqb-false (mark_in s) 0xA55A h)
 
   by_size : (t : Bool) → ltb (length s) head_size ≡ t → Front s
-  by_size true h = let g = ltb-true (length s) head_size h in short (omega (arith, g)) (sym (few-whole g))
-  by_size false h = by-mark (ltb-false (length s) head_size h) _ refl
+  by_size true h = let g = ltb-true (length s) head_size h in short (omega (arith, g)) (sym (few_whole g))
+  by_size false h = by_mark (ltb-false (length s) head_size h) _ refl
 
   pub front : Front s
   front = by_size _ refl
 
-  pub found-whole : head_size + length_in s ≤ length s → mark_in s ≡ 0xA55A → true ≡ whole s
-  found-whole h m = all_there s (omega (arith, h)) m h
+  pub found_whole : head_size + length_in s ≤ length s → mark_in s ≡ 0xA55A → true ≡ whole s
+  found_whole h m = all_there s (omega (arith, h)) m h
 
-  pub found-to-come : head_size + length_in s ≤ length s → mark_in s ≡ 0xA55A → length_in s ≡ to_come s
-  found-to-come h m = right-to-come (omega (arith, h)) m
+  pub found_to_come : head_size + length_in s ≤ length s → mark_in s ≡ 0xA55A → length_in s ≡ to_come s
+  found_to_come h m = right_to_come (omega (arith, h)) m
 
 -- ---- with more bytes behind
 module _ (s t : List ℕ) (long : head_size ≤ length s) where
   word_kept : (i : ℕ) → i + 1 < head_size → word_at (s ++ t) i ≡ word_at s i
   word_kept i h = rw (get_or-append s t 0 i (omega (arith, h, long)), get_or-append s t 0 (i + 1) (omega (arith, h, long)))
 
-  pub mark-kept : mark_in (s ++ t) ≡ mark_in s
-  mark-kept = word_kept 0 (omega arith)
+  pub mark_kept : mark_in (s ++ t) ≡ mark_in s
+  mark_kept = word_kept 0 (omega arith)
 
-  pub length-kept : length_in (s ++ t) ≡ length_in s
-  length-kept = ap (λ (k : ℕ). k % 4096) (word_kept 5 (omega arith))
+  pub length_kept : length_in (s ++ t) ≡ length_in s
+  length_kept = ap (λ (k : ℕ). k % 4096) (word_kept 5 (omega arith))
 
   module _ (all : head_size + length_in s ≤ length s) where
-    pub behind-kept : after_record (s ++ t) ≡ after_record s ++ t
-    behind-kept = ap (λ (k : ℕ). drop (head_size + k) (s ++ t)) length-kept ∙ drop-append-le (head_size + length_in s) s t all
+    pub behind_kept : after_record (s ++ t) ≡ after_record s ++ t
+    behind_kept = ap (λ (k : ℕ). drop (head_size + k) (s ++ t)) length_kept ∙ drop-append-le (head_size + length_in s) s t all
 
-    section-kept : section_in (s ++ t) ≡ section_in s
-    section-kept =
+    section_kept : section_in (s ++ t) ≡ section_in s
+    section_kept =
         let k = 3 + length_in s in
-        ap (λ (x : ℕ). take (3 + x) (drop 4 (s ++ t))) length-kept
+        ap (λ (x : ℕ). take (3 + x) (drop 4 (s ++ t))) length_kept
         ∙ ap (take k) (drop-append-le 4 s t (omega (arith, long)))
         ∙ take-append-le k (drop 4 s) t (omega (arith, length-drop 4 s, all))
 
-    pub lines-kept : (n : ℕ) → record_lines n (s ++ t) ≡ record_lines n s
+    pub lines_kept : (n : ℕ) → record_lines n (s ++ t) ≡ record_lines n s
     unfolding record_lines
-    lines-kept n = rw (section-kept, word_kept 2 (omega arith))
+    lines_kept n = rw (section_kept, word_kept 2 (omega arith))

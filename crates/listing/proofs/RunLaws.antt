@@ -16,8 +16,8 @@ use Rattle.listing.specs.Runs.{Steps, going_on, steps_of, all_steps, unless_over
 use Rattle.listing.specs.declared.Input.{Input}
 use Rattle.listing.specs.declared.Input.TheVariants.{More}
 use Rattle.listing.specs.declared.Next.TheVariants.{Over}
-use Rattle.listing.proofs.StepLaws.{too_short, long-enough}
-use Rattle.listing.proofs.FrontLaws.{Front, short, wrong, found, front, wrong-whole, wrong-to-come, found-whole, found-to-come, mark-kept, length-kept, behind-kept, lines-kept}
+use Rattle.listing.proofs.StepLaws.{too_short, long_enough}
+use Rattle.listing.proofs.FrontLaws.{Front, short, wrong, found, front, wrong_whole, wrong_to_come, found_whole, found_to_come, mark_kept, length_kept, behind_kept, lines_kept}
 
 -- ---- the listing's lines, by the front
 module _ (n : ℕ) (s : List ℕ) (e : Ending) where
@@ -26,9 +26,9 @@ module _ (n : ℕ) (s : List ℕ) (e : Ending) where
   no_record zero w = refl
   no_record (suc m) w = rw w
 
-  a-record : (m : ℕ) → true ≡ whole s → lines_from (suc m) n s e ≡ record_lines n s ++ lines_from m (suc n) (after_record s) e
+  a_record : (m : ℕ) → true ≡ whole s → lines_from (suc m) n s e ≡ record_lines n s ++ lines_from m (suc n) (after_record s) e
   unfolding lines_from
-  a-record m w = rw (sym w)
+  a_record m w = rw (sym w)
 
 bad_stop : (n : ℕ) (s : List ℕ) (e : Ending) → 0 < length s → bad_lines n ≡ stop_lines n s e
 unfolding stop_lines
@@ -36,7 +36,7 @@ bad_stop n s ended h = eq_no (length s) 0 (last_line n) (bad_lines n) (λ z. ome
 bad_stop n s unread h = refl
 
 wrong_lines : (m n : ℕ) (s : List ℕ) (e : Ending) → head_size ≤ length s → (mark_in s ≡ 0xA55A → ⊥) → lines_from m n s e ≡ bad_lines n
-wrong_lines m n s e h w = no_record n s e m (sym (wrong-whole s h w)) ∙ sym (bad_stop n s e (omega (arith, h)))
+wrong_lines m n s e h w = no_record n s e m (sym (wrong_whole s h w)) ∙ sym (bad_stop n s e (omega (arith, h)))
 
 pub behind_fewer : (s : List ℕ) (m : ℕ) → head_size + length_in s ≤ length s → length s ≤ suc m → length (after_record s) ≤ m
 behind_fewer s m h g = omega (arith, length-drop (head_size + length_in s) s, h, g)
@@ -46,24 +46,24 @@ module _ (e : Ending) where
   abbrev Enough : ℕ → Type 0
   Enough m = (k n : ℕ) (s : List ℕ) → length s ≤ m → length s ≤ k → lines_from m n s e ≡ lines_from k n s e
 
-  enough-none : (k n : ℕ) (s : List ℕ) → length s ≤ 0 → Front s → lines_from 0 n s e ≡ lines_from k n s e
-  enough-none k n s h (short x w) = no_record n s e 0 w ∙ sym (no_record n s e k w)
-  enough-none k n s h (wrong l w) = absurd (omega (arith, l, h))
-  enough-none k n s h (found l w) = absurd (omega (arith, l, h))
+  enough_none : (k n : ℕ) (s : List ℕ) → length s ≤ 0 → Front s → lines_from 0 n s e ≡ lines_from k n s e
+  enough_none k n s h (short x w) = no_record n s e 0 w ∙ sym (no_record n s e k w)
+  enough_none k n s h (wrong l w) = absurd (omega (arith, l, h))
+  enough_none k n s h (found l w) = absurd (omega (arith, l, h))
 
-  enough-some : (m : ℕ) → Enough m → (k n : ℕ) (s : List ℕ) → length s ≤ suc m → length s ≤ k → Front s → lines_from (suc m) n s e ≡ lines_from k n s e
-  enough-some m ih k n s h g (short x w) = no_record n s e (suc m) w ∙ sym (no_record n s e k w)
-  enough-some m ih k n s h g (wrong l w) = wrong_lines (suc m) n s e l w ∙ sym (wrong_lines k n s e l w)
-  enough-some m ih zero n s h g (found l w) = absurd (omega (arith, l, g))
-  enough-some m ih (suc k) n s h g (found l w) =
-      let t = found-whole s l w in
-      a-record n s e m t
+  enough_some : (m : ℕ) → Enough m → (k n : ℕ) (s : List ℕ) → length s ≤ suc m → length s ≤ k → Front s → lines_from (suc m) n s e ≡ lines_from k n s e
+  enough_some m ih k n s h g (short x w) = no_record n s e (suc m) w ∙ sym (no_record n s e k w)
+  enough_some m ih k n s h g (wrong l w) = wrong_lines (suc m) n s e l w ∙ sym (wrong_lines k n s e l w)
+  enough_some m ih zero n s h g (found l w) = absurd (omega (arith, l, g))
+  enough_some m ih (suc k) n s h g (found l w) =
+      let t = found_whole s l w in
+      a_record n s e m t
       ∙ ap (λ (x : List ℕ). record_lines n s ++ x) (ih k (suc n) (after_record s) (behind_fewer s m l h) (behind_fewer s k l g))
-      ∙ sym (a-record n s e k t)
+      ∙ sym (a_record n s e k t)
 
   enough : (m : ℕ) → Enough m
-  enough zero k n s h g = enough-none k n s h (front s)
-  enough (suc m) k n s h g = enough-some m (enough m) k n s h g (front s)
+  enough zero k n s h g = enough_none k n s h (front s)
+  enough (suc m) k n s h g = enough_some m (enough m) k n s h g (front s)
 
 -- ---- steps, by the front
 -- a record, and the steps behind it
@@ -75,18 +75,18 @@ module _ (m n : ℕ) (s : List ℕ) (i : Input) where
   unfolding steps_of
   taking {x} q = sym (ap (λ (y : Step). going_on n s y y.next (steps_of m (suc n) (drop y.taken s) i)) q)
 
-  pub short-steps : length s < head_size + to_come s → steps_of (suc m) n s i ≡ going_on n s (short_step n s i) (short_step n s i).next (steps_of m (suc n) (drop (short_step n s i).taken s) i)
-  short-steps h = taking (too_short n s i h)
+  pub short_steps : length s < head_size + to_come s → steps_of (suc m) n s i ≡ going_on n s (short_step n s i) (short_step n s i).next (steps_of m (suc n) (drop (short_step n s i).taken s) i)
+  short_steps h = taking (too_short n s i h)
 
-  pub wrong-steps : head_size ≤ length s → (mark_in s ≡ 0xA55A → ⊥) → steps_of (suc m) n s i ≡ record { lines = bad_lines n; number = n; held = s; next = Over }
+  pub wrong_steps : head_size ≤ length s → (mark_in s ≡ 0xA55A → ⊥) → steps_of (suc m) n s i ≡ record { lines = bad_lines n; number = n; held = s; next = Over }
   unfolding full_step going_on
-  wrong-steps h w = taking (long-enough n s i false (omega (arith, h, wrong-to-come s h w)) (sym (wrong-whole s h w)))
+  wrong_steps h w = taking (long_enough n s i false (omega (arith, h, wrong_to_come s h w)) (sym (wrong_whole s h w)))
 
-  pub found-steps : head_size + length_in s ≤ length s → mark_in s ≡ 0xA55A → steps_of (suc m) n s i ≡ then n s (steps_of m (suc n) (after_record s) i)
+  pub found_steps : head_size + length_in s ≤ length s → mark_in s ≡ 0xA55A → steps_of (suc m) n s i ≡ then n s (steps_of m (suc n) (after_record s) i)
   unfolding full_step going_on then
-  found-steps h w =
-      let t = found-to-come s h w in
-      taking (long-enough n s i true (omega (arith, h, t)) (sym (found-whole s h w)))
+  found_steps h w =
+      let t = found_to_come s h w in
+      taking (long_enough n s i true (omega (arith, h, t)) (sym (found_whole s h w)))
       ∙ ap (λ (k : ℕ). then n s (steps_of m (suc n) (drop (head_size + k) s) i)) (sym t)
 
 -- ---- the steps at the input's end
@@ -105,23 +105,23 @@ module _ (e : Ending) where
   abbrev Ends : ℕ → Type 0
   Ends m = (n : ℕ) (s : List ℕ) → length s ≤ m → (steps_of (suc m) n s (told_by e)).lines ≡ lines_from m n s e
 
-  ends-none : (n : ℕ) (s : List ℕ) → length s ≤ 0 → Front s → (steps_of 1 n s (told_by e)).lines ≡ lines_from 0 n s e
-  ends-none n s h (short x w) = ap (λ (r : Steps). r.lines) (short-steps 0 n s (told_by e) x) ∙ short_end n s e _ ∙ sym (no_record n s e 0 w)
-  ends-none n s h (wrong l w) = absurd (omega (arith, l, h))
-  ends-none n s h (found l w) = absurd (omega (arith, l, h))
+  ends_none : (n : ℕ) (s : List ℕ) → length s ≤ 0 → Front s → (steps_of 1 n s (told_by e)).lines ≡ lines_from 0 n s e
+  ends_none n s h (short x w) = ap (λ (r : Steps). r.lines) (short_steps 0 n s (told_by e) x) ∙ short_end n s e _ ∙ sym (no_record n s e 0 w)
+  ends_none n s h (wrong l w) = absurd (omega (arith, l, h))
+  ends_none n s h (found l w) = absurd (omega (arith, l, h))
 
   ends_some : (m : ℕ) → Ends m → (n : ℕ) (s : List ℕ) → length s ≤ suc m → Front s → (steps_of (suc (suc m)) n s (told_by e)).lines ≡ lines_from (suc m) n s e
   unfolding then
   ends_some m ih n s h (short x w) =
-      ap (λ (r : Steps). r.lines) (short-steps (suc m) n s (told_by e) x) ∙ short_end n s e _ ∙ sym (no_record n s e (suc m) w)
-  ends_some m ih n s h (wrong l w) = ap (λ (r : Steps). r.lines) (wrong-steps (suc m) n s (told_by e) l w) ∙ sym (wrong_lines (suc m) n s e l w)
+      ap (λ (r : Steps). r.lines) (short_steps (suc m) n s (told_by e) x) ∙ short_end n s e _ ∙ sym (no_record n s e (suc m) w)
+  ends_some m ih n s h (wrong l w) = ap (λ (r : Steps). r.lines) (wrong_steps (suc m) n s (told_by e) l w) ∙ sym (wrong_lines (suc m) n s e l w)
   ends_some m ih n s h (found l w) =
-      ap (λ (r : Steps). r.lines) (found-steps (suc m) n s (told_by e) l w)
+      ap (λ (r : Steps). r.lines) (found_steps (suc m) n s (told_by e) l w)
       ∙ ap (λ (x : List ℕ). record_lines n s ++ x) (ih (suc n) (after_record s) (behind_fewer s m l h))
-      ∙ sym (a-record n s e m (found-whole s l w))
+      ∙ sym (a_record n s e m (found_whole s l w))
 
   ends : (m : ℕ) → Ends m
-  ends zero n s h = ends-none n s h (front s)
+  ends zero n s h = ends_none n s h (front s)
   ends (suc m) n s h = ends_some m (ends m) n s h (front s)
 
 -- ---- the steps while more may come: what they leave in hand, with what comes behind it, has the lines that are left
@@ -132,42 +132,42 @@ module _ (t : List ℕ) (e : Ending) where
   abbrev Goes : ℕ → Type 0
   Goes m = (k n : ℕ) (s : List ℕ) → length s ≤ m → length (s ++ t) ≤ k → lines_from k n (s ++ t) e ≡ left (steps_of (suc m) n s More)
 
-  short-goes : (m k n : ℕ) (s : List ℕ) → length (s ++ t) ≤ k → length s < head_size + to_come s → lines_from k n (s ++ t) e ≡ left (steps_of (suc m) n s More)
+  short_goes : (m k n : ℕ) (s : List ℕ) → length (s ++ t) ≤ k → length s < head_size + to_come s → lines_from k n (s ++ t) e ≡ left (steps_of (suc m) n s More)
   unfolding left going_on short_step
-  short-goes m k n s g x = enough e k (length (s ++ t)) n (s ++ t) g (omega arith) ∙ ap left (sym (short-steps m n s More x))
+  short_goes m k n s g x = enough e k (length (s ++ t)) n (s ++ t) g (omega arith) ∙ ap left (sym (short_steps m n s More x))
 
-  wrong-goes : (m k n : ℕ) (s : List ℕ) → head_size ≤ length s → (mark_in s ≡ 0xA55A → ⊥) → lines_from k n (s ++ t) e ≡ left (steps_of (suc m) n s More)
+  wrong_goes : (m k n : ℕ) (s : List ℕ) → head_size ≤ length s → (mark_in s ≡ 0xA55A → ⊥) → lines_from k n (s ++ t) e ≡ left (steps_of (suc m) n s More)
   unfolding left
-  wrong-goes m k n s l w =
-      wrong_lines k n (s ++ t) e (omega (arith, l, length-append s t)) (λ z. w (sym (mark-kept s t l) ∙ z))
-      ∙ sym (append-nil (bad_lines n)) ∙ ap left (sym (wrong-steps m n s More l w))
+  wrong_goes m k n s l w =
+      wrong_lines k n (s ++ t) e (omega (arith, l, length-append s t)) (λ z. w (sym (mark_kept s t l) ∙ z))
+      ∙ sym (append-nil (bad_lines n)) ∙ ap left (sym (wrong_steps m n s More l w))
 
-  found-goes : (m k n : ℕ) (s : List ℕ) → Goes m → length s ≤ suc m → length (s ++ t) ≤ suc k → head_size + length_in s ≤ length s → mark_in s ≡ 0xA55A
+  found_goes : (m k n : ℕ) (s : List ℕ) → Goes m → length s ≤ suc m → length (s ++ t) ≤ suc k → head_size + length_in s ≤ length s → mark_in s ≡ 0xA55A
       → lines_from (suc k) n (s ++ t) e ≡ left (steps_of (suc (suc m)) n s More)
   unfolding left then
-  found-goes m k n s ih h g l w =
+  found_goes m k n s ih h g l w =
       let f : head_size ≤ length s = omega (arith, l) in
-      let c : head_size + length_in (s ++ t) ≤ length (s ++ t) = omega (arith, l, length-append s t, length-kept s t f) in
-      let b = behind-kept s t f l in
+      let c : head_size + length_in (s ++ t) ≤ length (s ++ t) = omega (arith, l, length-append s t, length_kept s t f) in
+      let b = behind_kept s t f l in
       let r = steps_of (suc m) (suc n) (after_record s) More in
-      a-record n (s ++ t) e k (found-whole (s ++ t) c (mark-kept s t f ∙ w))
-      ∙ ap (λ (x : List ℕ). x ++ lines_from k (suc n) (after_record (s ++ t)) e) (lines-kept s t f l n)
+      a_record n (s ++ t) e k (found_whole (s ++ t) c (mark_kept s t f ∙ w))
+      ∙ ap (λ (x : List ℕ). x ++ lines_from k (suc n) (after_record (s ++ t)) e) (lines_kept s t f l n)
       ∙ ap (λ (x : List ℕ). record_lines n s ++ lines_from k (suc n) x e) b
       ∙ ap (λ (x : List ℕ). record_lines n s ++ x) (ih k (suc n) (after_record s) (behind_fewer s m l h) (omega (arith, ap length b, behind_fewer (s ++ t) k c g)))
       ∙ sym (append_assoc (record_lines n s) r.lines (unless_over r.next (lines_from (length (r.held ++ t)) r.number (r.held ++ t) e)))
-      ∙ ap left (sym (found-steps (suc m) n s More l w))
+      ∙ ap left (sym (found_steps (suc m) n s More l w))
 
   goes_none : (k n : ℕ) (s : List ℕ) → length s ≤ 0 → length (s ++ t) ≤ k → Front s → lines_from k n (s ++ t) e ≡ left (steps_of 1 n s More)
-  goes_none k n s h g (short x w) = short-goes 0 k n s g x
+  goes_none k n s h g (short x w) = short_goes 0 k n s g x
   goes_none k n s h g (wrong l w) = absurd (omega (arith, l, h))
   goes_none k n s h g (found l w) = absurd (omega (arith, l, h))
 
   goes_some : (m : ℕ) → Goes m → (k n : ℕ) (s : List ℕ) → length s ≤ suc m → length (s ++ t) ≤ k → Front s
       → lines_from k n (s ++ t) e ≡ left (steps_of (suc (suc m)) n s More)
-  goes_some m ih k n s h g (short x w) = short-goes (suc m) k n s g x
-  goes_some m ih k n s h g (wrong l w) = wrong-goes (suc m) k n s l w
+  goes_some m ih k n s h g (short x w) = short_goes (suc m) k n s g x
+  goes_some m ih k n s h g (wrong l w) = wrong_goes (suc m) k n s l w
   goes_some m ih zero n s h g (found l w) = absurd (omega (arith, l, g, length-append s t))
-  goes_some m ih (suc k) n s h g (found l w) = found-goes m k n s ih h g l w
+  goes_some m ih (suc k) n s h g (found l w) = found_goes m k n s ih h g l w
 
   goes : (m : ℕ) → Goes m
   goes zero k n s h g = goes_none k n s h g (front s)

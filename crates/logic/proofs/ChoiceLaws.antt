@@ -24,10 +24,10 @@ module _ {A : Type 0} (x y : ℕ) (a b : A) {r : A} where
   eq_no h e = rw (ne_eqb x y h) e
 
   -- the same where the test is known by its Bool
-  pub test-yes : eqb x y ≡ true → r ≡ a → r ≡ if_eq x y a b
+  pub test_yes : eqb x y ≡ true → r ≡ a → r ≡ if_eq x y a b
   unfolding if_eq
-  test-yes h e = rw h e
+  test_yes h e = rw h e
 
-  pub test-no : eqb x y ≡ false → r ≡ b → r ≡ if_eq x y a b
+  pub test_no : eqb x y ≡ false → r ≡ b → r ≡ if_eq x y a b
   unfolding if_eq
-  test-no h e = rw h e
+  test_no h e = rw h e

@@ -6,7 +6,7 @@ use mathlib.Core.Logic.{⊎_elim}
 use native.Mathlib.Omega.{arith}
 use lib.Dec.{eqb}
 use borrow.Author.Tests.{eq-eqb, eqb-true, ne_eqb, not-false}
-use Rattle.logic.proofs.LoopLaws.{and_left, and_right, any_at, any_none, below_suc, both, first-split, isnt, sum-grows, sum_more}
+use Rattle.logic.proofs.LoopLaws.{and_left, and_right, any_at, any_none, below_suc, both, first_split, isnt, sum_grows, sum_more}
 use Rattle.logic.specs.Loops.{◌&◌, any, count, first, one, sum}
 
 -- ---- sums
@@ -70,7 +70,7 @@ count_upto n p = omega (arith, sum_one n, sum_le n (λ i. one (p i)) (λ _. 1) (
 -- one that has it is counted
 pub count_some : (n : ℕ) (p : ℕ → Bool) (k : ℕ) → k < n → p k ≡ true → 0 < count n p
 count_some n p k l e = let f : ℕ → ℕ = λ i. one (p i) in
-    omega (arith, ap one e, sum_more f k, sum-grows f n (k + 1) (omega arith))
+    omega (arith, ap one e, sum_more f k, sum_grows f n (k + 1) (omega arith))
 
 -- no two have it: the count is at most 1
 pub count_once : (n : ℕ) (p : ℕ → Bool) → ((i j : ℕ) → i < j → j < n → p i ≡ true → p j ≡ true → ⊥) → count n p ≤ 1
@@ -88,13 +88,13 @@ pub count_any : (n : ℕ) (p : ℕ → Bool) → count n p ≤ 1 → count n p �
 count_any n p h = ⊎_elim
     (λ w. omega (arith, count_some n p (first n p) w.0 w.1, ap one (any_at p n (first n p) w.0 w.1)))
     (λ w. omega (arith, count_none n p w.1, ap one (any_none p n w.1)))
-    (first-split p n)
+    (first_split p n)
 
 -- where some lack it, there is one that lacks it
 pub count_gap : (n : ℕ) (p : ℕ → Bool) → count n p < n → first n (λ i. not (p i)) < n
 count_gap n p h = ⊎_elim (λ w. w.0)
     (λ w. absurd (omega (arith, count_all n p (λ k l. not-false (p k) (w.1 k l)))))
-    (first-split (λ i. not (p i)) n)
+    (first_split (λ i. not (p i)) n)
 
 -- ---- a count sorted by a number
 one_of : (q c : ℕ) → c < q → sum q (λ v. one (eqb c v)) ≡ 1
@@ -126,8 +126,8 @@ pub record Sorted (n q : ℕ) (p : ℕ → Bool) (c : ℕ → ℕ) : Type 0 wher
   pub apart : (i j : ℕ) → i < j → j < n → p i ≡ true → p j ≡ true → c i ≡ c j → ⊥
 
 module _ (n q : ℕ) (p : ℕ → Bool) (c : ℕ → ℕ) (h : Sorted n q p c) where
-  each-once : (v : ℕ) → v < q → count n (λ i. p i & eqb (c i) v) ≤ 1
-  each-once v l = count_once n (λ i. p i & eqb (c i) v)
+  each_once : (v : ℕ) → v < q → count n (λ i. p i & eqb (c i) v) ≤ 1
+  each_once v l = count_once n (λ i. p i & eqb (c i) v)
       (λ i j a b s t. h.apart i j a b (and_left _ _ s) (and_left _ _ t)
       (eqb-true _ _ (and_right _ _ s) ∙ sym (eqb-true _ _ (and_right _ _ t))))
 
@@ -135,18 +135,18 @@ module _ (n q : ℕ) (p : ℕ → Bool) (c : ℕ → ℕ) (h : Sorted n q p c) w
   pub numbers : count n p ≡ count q (λ v. any n (λ i. p i & eqb (c i) v))
   numbers = count_by n q p c h.small
       ∙ sum_cong q (λ v. count n (λ i. p i & eqb (c i) v)) (λ v. one (any n (λ i. p i & eqb (c i) v)))
-      (λ v l. count_any n (λ i. p i & eqb (c i) v) (each-once v l))
+      (λ v l. count_any n (λ i. p i & eqb (c i) v) (each_once v l))
 
   -- so at most q, and fewer where a number is missing
   pub pigeon : count n p ≤ q
   pigeon = omega (arith, numbers, count_upto q (λ v. any n (λ i. p i & eqb (c i) v)))
 
-  pub pigeon-gap : (v : ℕ) → v < q → ((i : ℕ) → i < n → (p i & eqb (c i) v) ≡ false) → count n p < q
-  pigeon-gap v l lacks =
+  pub pigeon_gap : (v : ℕ) → v < q → ((i : ℕ) → i < n → (p i & eqb (c i) v) ≡ false) → count n p < q
+  pigeon_gap v l lacks =
       omega (
         arith,
         count_by n q p c h.small,
         sum_one q,
-        sum_lt q (λ v. count n (λ i. p i & eqb (c i) v)) (λ _. 1) each-once v l
+        sum_lt q (λ v. count n (λ i. p i & eqb (c i) v)) (λ _. 1) each_once v l
             (let z : count n (λ i. p i & eqb (c i) v) ≡ 0 = count_none n (λ i. p i & eqb (c i) v) lacks in omega (arith, z)),
       )

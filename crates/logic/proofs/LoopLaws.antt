@@ -93,19 +93,19 @@ neither_below i j f g =
 
 -- ---- all
 module _ (f : ℕ → Bool) where
-  pub all-at : (n : ℕ) → all n f ≡ true → (k : ℕ) → k < n → f k ≡ true
+  pub all_at : (n : ℕ) → all n f ≡ true → (k : ℕ) → k < n → f k ≡ true
   unfolding all
-  all-at zero a k h = absurd (omega arith)
-  all-at (suc n) a k h =
-      ⊎_elim (λ l. all-at n (and_left (all n f) (f n) a) k l) (λ e. rw e (and_right (all n f) (f n) a)) (below_suc k n h)
+  all_at zero a k h = absurd (omega arith)
+  all_at (suc n) a k h =
+      ⊎_elim (λ l. all_at n (and_left (all n f) (f n) a) k l) (λ e. rw e (and_right (all n f) (f n) a)) (below_suc k n h)
 
-  pub all-i : (n : ℕ) → ((k : ℕ) → k < n → f k ≡ true) → all n f ≡ true
+  pub all_i : (n : ℕ) → ((k : ℕ) → k < n → f k ≡ true) → all n f ≡ true
   unfolding all
-  all-i zero h = refl
-  all-i (suc n) h = and_i (all n f) (f n) (all-i n (λ k l. h k (omega arith))) (h n (omega arith))
+  all_i zero h = refl
+  all_i (suc n) h = and_i (all n f) (f n) (all_i n (λ k l. h k (omega arith))) (h n (omega arith))
 
-  pub all-fails : (n k : ℕ) → k < n → f k ≡ false → all n f ≡ false
-  all-fails n k h e = isnt (all n f) (λ a. true_false (f k) (all-at n a k h) e)
+  pub all_fails : (n k : ℕ) → k < n → f k ≡ false → all n f ≡ false
+  all_fails n k h e = isnt (all n f) (λ a. true_false (f k) (all_at n a k h) e)
 
 -- ---- any
 module _ (p : ℕ → Bool) where
@@ -122,13 +122,13 @@ module _ (p : ℕ → Bool) where
   any_none zero h = refl
   any_none (suc n) h = rw (h n (omega arith)) (any_none n (λ k l. h k (omega arith)))
 
-  pub none-at : (n : ℕ) → any n p ≡ false → (k : ℕ) → k < n → p k ≡ false
-  none-at n e k l = isnt (p k) (λ t. true_false (any n p) (any_at n k l t) e)
+  pub none_at : (n : ℕ) → any n p ≡ false → (k : ℕ) → k < n → p k ≡ false
+  none_at n e k l = isnt (p k) (λ t. true_false (any n p) (any_at n k l t) e)
 
   -- one more
-  pub any-more : (n : ℕ) → any (n + 1) p ≡ pick (p n) true (any n p)
+  pub any_more : (n : ℕ) → any (n + 1) p ≡ pick (p n) true (any n p)
   unfolding any
-  any-more n = rw add-one refl
+  any_more n = rw add-one refl
 
 -- ---- first
 module _ (p : ℕ → Bool) where
@@ -139,52 +139,52 @@ module _ (p : ℕ → Bool) where
       rw (first_none n (λ k l. h k (omega arith)))
       (rw (le-ltb n n (omega arith)) (rw (h n (omega arith))))
 
-  pub first-at : (n i : ℕ) → i < n → ((k : ℕ) → k < i → p k ≡ false) → p i ≡ true → first n p ≡ i
+  pub first_at : (n i : ℕ) → i < n → ((k : ℕ) → k < i → p k ≡ false) → p i ≡ true → first n p ≡ i
   unfolding first
-  first-at zero i l h e = absurd (omega arith)
-  first-at (suc n) i l h e =
+  first_at zero i l h e = absurd (omega arith)
+  first_at (suc n) i l h e =
       ⊎_elim
-      (λ l'. let r : first n p ≡ i = first-at n i l' h e in rw (r, lt-ltb i n l'))
+      (λ l'. let r : first n p ≡ i = first_at n i l' h e in rw (r, lt-ltb i n l'))
       (λ q. let r : first n p ≡ n = first_none n (λ k l'. h k (omega arith)) in
       let e' : p n ≡ true = rw q at e in
       rw (r, le-ltb n n (omega arith), e') (sym q))
       (below_suc i n l)
 
   -- the first is below n and has p, or none has
-  pub first-split : (n : ℕ)
+  pub first_split : (n : ℕ)
       → ((first n p < n) × (p (first n p) ≡ true)) ⊎ ((first n p ≡ n) × ((k : ℕ) → k < n → p k ≡ false))
   unfolding first
-  first-split zero = inr (refl, λ k h. absurd (omega arith))
-  first-split (suc n) =
+  first_split zero = inr (refl, λ k h. absurd (omega arith))
+  first_split (suc n) =
       ⊎_elim
       (λ w. inl (rw (lt-ltb (first n p) n w.0) (omega (arith, w.0)), rw (lt-ltb (first n p) n w.0) w.1))
       (λ w. ⊎_elim
       (λ e. inl (rw (w.0, le-ltb n n (omega arith), e) (omega arith), rw (w.0, le-ltb n n (omega arith), e) e))
       (λ e. inr (rw (w.0, le-ltb n n (omega arith), e) refl, λ k h. ⊎_elim (λ l. w.1 k l) (λ q. rw q e) (below_suc k n h)))
       (both (p n)))
-      (first-split n)
+      (first_split n)
 
-  pub first-has : (n : ℕ) → first n p < n → p (first n p) ≡ true
-  first-has n l = ⊎_elim (λ w. w.1) (λ w. absurd (omega (arith, w.0))) (first-split n)
+  pub first_has : (n : ℕ) → first n p < n → p (first n p) ≡ true
+  first_has n l = ⊎_elim (λ w. w.1) (λ w. absurd (omega (arith, w.0))) (first_split n)
 
-  pub any-first : (n : ℕ) → any n p ≡ ltb (first n p) n
-  any-first n = ⊎_elim
+  pub any_first : (n : ℕ) → any n p ≡ ltb (first n p) n
+  any_first n = ⊎_elim
       (λ w. any_at p n (first n p) w.0 w.1 ∙ sym (lt-ltb (first n p) n w.0))
       (λ w. any_none p n w.1 ∙ sym (le-ltb (first n p) n (omega (arith, w.0))))
-      (first-split n)
+      (first_split n)
 
   -- a search that found one, and one that found none
-  pub any-yes : (n : ℕ) {w : ℕ} → w ≡ first n p → w < n → any n p ≡ true
-  any-yes n e l = any-first n ∙ lt-ltb (first n p) n (omega (arith, e, l))
+  pub any_yes : (n : ℕ) {w : ℕ} → w ≡ first n p → w < n → any n p ≡ true
+  any_yes n e l = any_first n ∙ lt-ltb (first n p) n (omega (arith, e, l))
 
-  pub any-no : (n : ℕ) {w : ℕ} → w ≡ first n p → n ≤ w → any n p ≡ false
-  any-no n e l = any-first n ∙ le-ltb (first n p) n (omega (arith, e, l))
+  pub any_no : (n : ℕ) {w : ℕ} → w ≡ first n p → n ≤ w → any n p ≡ false
+  any_no n e l = any_first n ∙ le-ltb (first n p) n (omega (arith, e, l))
 
-  pub not-any-first : (n : ℕ) → eqb (first n p) n ≡ not (any n p)
-  not-any-first n = ⊎_elim
+  pub not_any_first : (n : ℕ) → eqb (first n p) n ≡ not (any n p)
+  not_any_first n = ⊎_elim
       (λ w. ne_eqb (first n p) n (λ e. omega (arith, w.0, e)) ∙ sym (ap not (any_at p n (first n p) w.0 w.1)))
       (λ w. eq-eqb (first n p) n w.0 ∙ sym (ap not (any_none p n w.1)))
-      (first-split n)
+      (first_split n)
 
 -- first sees only the values below the bound
 pub first_cong : (n : ℕ) (p q : ℕ → Bool) → ((k : ℕ) → k < n → p k ≡ q k) → first n p ≡ first n q
@@ -196,19 +196,19 @@ first_cong (suc n) p q h =
 
 -- ---- sum
 module _ (f : ℕ → ℕ) where
-  pub sum-none : sum 0 f ≡ 0
+  pub sum_none : sum 0 f ≡ 0
   unfolding sum
-  sum-none = refl
+  sum_none = refl
 
   pub sum_more : (i : ℕ) → sum (i + 1) f ≡ sum i f + f i
   unfolding sum
   sum_more i = rw add-one refl
 
-  pub sum-grows : (n i : ℕ) → i ≤ n → sum i f ≤ sum n f
+  pub sum_grows : (n i : ℕ) → i ≤ n → sum i f ≤ sum n f
   unfolding sum
-  sum-grows zero i h = let e : i ≡ 0 = omega arith in rw e (omega arith)
-  sum-grows (suc n) i h = ⊎_elim
-      (λ (l : ltb i (suc n) ≡ true). let g : sum i f ≤ sum n f = sum-grows n i (omega (arith, ltb-true i (suc n) l)) in omega (arith, g))
+  sum_grows zero i h = let e : i ≡ 0 = omega arith in rw e (omega arith)
+  sum_grows (suc n) i h = ⊎_elim
+      (λ (l : ltb i (suc n) ≡ true). let g : sum i f ≤ sum n f = sum_grows n i (omega (arith, ltb-true i (suc n) l)) in omega (arith, g))
       (λ (l : ltb i (suc n) ≡ false). let e : i ≡ suc n = omega (arith, ltb-false i (suc n) l, h) in omega (arith, ap (λ (k : ℕ). sum k f) e))
       (both (ltb i (suc n)))
 
@@ -218,15 +218,15 @@ module _ {A : Type 0} (f : A → A) (d : A) where
   unfolding each
   each_more n l = rw add-one refl
 
-  pub length-each : (n : ℕ) (l : List A) → length (each n f d l) ≡ length l
+  pub length_each : (n : ℕ) (l : List A) → length (each n f d l) ≡ length l
   unfolding each
-  length-each zero l = refl
-  length-each (suc n) l = length-set (each n f d l) n (f (get_or (each n f d l) n d)) ∙ length-each n l
+  length_each zero l = refl
+  length_each (suc n) l = length-set (each n f d l) n (f (get_or (each n f d l) n d)) ∙ length_each n l
 
-  pub each-past : (n : ℕ) (l : List A) (k : ℕ) → n ≤ k → get_or (each n f d l) k d ≡ get_or l k d
+  pub each_past : (n : ℕ) (l : List A) (k : ℕ) → n ≤ k → get_or (each n f d l) k d ≡ get_or l k d
   unfolding each
-  each-past zero l k h = refl
-  each-past (suc n) l k h = get_or-set_other (each n f d l) n k (f (get_or (each n f d l) n d)) d (λ e. omega (arith, e)) ∙ each-past n l k (omega arith)
+  each_past zero l k h = refl
+  each_past (suc n) l k h = get_or-set_other (each n f d l) n k (f (get_or (each n f d l) n d)) d (λ e. omega (arith, e)) ∙ each_past n l k (omega arith)
 
   pub each_at : (n : ℕ) (l : List A) (k : ℕ) → k < n → n ≤ length l → get_or (each n f d l) k d ≡ f (get_or l k d)
   unfolding each
@@ -234,7 +234,7 @@ module _ {A : Type 0} (f : A → A) (d : A) where
   each_at (suc n) l k h b =
       ⊎_elim
       (λ m. get_or-set_other (each n f d l) n k (f (get_or (each n f d l) n d)) d (λ e. omega (arith, e)) ∙ each_at n l k m (omega arith))
-      (λ e. rw e (get_or-set_same (each n f d l) n (f (get_or (each n f d l) n d)) d (omega (arith, length-each n l)) ∙ ap f (each-past n l n (omega arith))))
+      (λ e. rw e (get_or-set_same (each n f d l) n (f (get_or (each n f d l) n d)) d (omega (arith, length_each n l)) ∙ ap f (each_past n l n (omega arith))))
       (below_suc k n h)
 
 -- ---- what a loop's `return` leaves
@@ -244,7 +244,7 @@ at_end f {x} {i} {n} h l e = let q : i ≡ n = omega arith in e ∙ ap f q
 
 -- a loop over all that ended, by what was met
 pub all_met : (f : ℕ → Bool) (n i : ℕ) → n ≤ i → ((j : ℕ) → j < i → f j ≡ true) → true ≡ all n f
-all_met f n i l h = sym (all-i f n (λ k a. h k (omega arith)))
+all_met f n i l h = sym (all_i f n (λ k a. h k (omega arith)))
 
 pub is_leb : (a b : ℕ) → a ≤ b → true ≡ leb a b
 is_leb a b h = sym (le-leb a b h)

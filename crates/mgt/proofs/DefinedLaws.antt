@@ -27,12 +27,12 @@ module _ (s : List ℕ) (end a b : ℕ) (w : walks defined s end a ≡ To b) whe
       let t = fields_end 16 (16 ∷ 8 ∷ 32 ∷ []) 9 refl a end p.0 p.1.0 in
       (p.0, (t.0, list12_passed no_tag s end p.0 b p.1.1))
 
-  pub defined-forward : (a < b) × (b ≤ end)
-  defined-forward = let p = passed in (omega (arith, p.1.0, p.1.1.forward), p.1.1.inside)
+  pub defined_forward : (a < b) × (b ≤ end)
+  defined_forward = let p = passed in (omega (arith, p.1.0, p.1.1.forward), p.1.1.inside)
 
-  pub defined-ends : b ≡ defined_end s a
+  pub defined_ends : b ≡ defined_end s a
   unfolding defined_end
-  defined-ends = let p = passed in p.1.1.ends ∙ ap (list_end 4096 s) p.1.0
+  defined_ends = let p = passed in p.1.1.ends ∙ ap (list_end 4096 s) p.1.0
 
 module _ (s : List ℕ) (a : ℕ) where
   pub row_six : length (defined_row s a) ≡ 6

@@ -27,13 +27,13 @@ either P false a b p q = q
 -- answer holds where nothing is found, and of each that fits and begins with x, it holds of what is answered
 module _ {A : Type 0} (P : A → Type 0) (s : List ℕ) (size : ℕ → ℕ) (end x : ℕ) (told : ℕ → A) (absent : A) (Left : ℕ → ℕ → Type 0)
     (goes_on : (n at : ℕ) → at + size at ≤ end → Left (suc n) at → Left n (at + size at)) (of-absent : P absent)
-    (of-told : (n at : ℕ) → at + size at ≤ end → Left (suc n) at → byte_at s at ≡ x → P (told at)) where
+    (of_told : (n at : ℕ) → at + size at ≤ end → Left (suc n) at → byte_at s at ≡ x → P (told at)) where
   pub first_left : (n at : ℕ) → Left n at → P (first_match s size n end at x told absent)
   unfolding first_match if_eq
   first_left zero at g = of-absent
   first_left (suc n) at g = ⊎_elim
       (λ h. subst P (lt_no end (at + size at) _ _ (omega arith) refl)
-      (either P (eqb (byte_at s at) x) _ _ (λ e. of-told n at (omega arith) g (eqb-true _ x e))
+      (either P (eqb (byte_at s at) x) _ _ (λ e. of_told n at (omega arith) g (eqb-true _ x e))
       (first_left n (at + size at) (goes_on n at (omega arith) g))))
       (λ h. subst P (first_past s size end at x told absent _ refl (suc n) (omega arith)) of-absent)
       (eq-zero-or-pos (at + size at - end))
@@ -41,8 +41,8 @@ module _ {A : Type 0} (P : A → Type 0) (s : List ℕ) (size : ℕ → ℕ) (en
 -- the same where nothing is known
 first_all : {A : Type 0} (P : A → Type 0) (s : List ℕ) (size : ℕ → ℕ) (end x : ℕ) (told : ℕ → A) (absent : A) → P absent
     → ((at : ℕ) → at + size at ≤ end → byte_at s at ≡ x → P (told at)) → (n at : ℕ) → P (first_match s size n end at x told absent)
-first_all P s size end x told absent of-absent of-told n at =
-    first_left P s size end x told absent (λ n at. record {}) (λ n at h g. record {}) of-absent (λ n at h g e. of-told at h e) n at (record {})
+first_all P s size end x told absent of-absent of_told n at =
+    first_left P s size end x told absent (λ n at. record {}) (λ n at h g. record {}) of-absent (λ n at h g e. of_told at h e) n at (record {})
 
 -- a value is one of 0 to 15
 abbrev Below : Rated → Type 0
@@ -80,25 +80,25 @@ text_within s region end from t e =
 
 -- ---- a number that no byte has is absent
 module _ (s : List ℕ) (bytes : Bytes s) where
-  first-wide : {A : Type 0} (size : ℕ → ℕ) (n end at x : ℕ) (told : ℕ → A) (absent : A) → 255 < x
+  first_wide : {A : Type 0} (size : ℕ → ℕ) (n end at x : ℕ) (told : ℕ → A) (absent : A) → 255 < x
       → first_match s size n end at x told absent ≡ absent
-  first-wide size n end at x told absent h =
+  first_wide size n end at x told absent h =
       first_all (λ r. r ≡ absent) s size end x told absent refl (λ a l e. absurd (omega (arith, bytes a))) n at
 
-  pub wide-region : (region dimension end from : ℕ) → 255 < region
+  pub wide_region : (region dimension end from : ℕ) → 255 < region
       → rating_in s region dimension end from ≡ advisory_in s end from (λ a. region_absent) no_advisory
   unfolding rating_in
-  wide-region region dimension end from h =
+  wide_region region dimension end from h =
       λ i. advisory_in s end from
-      (λ a. first-wide (region_size s) (byte_at s (a + 2) % 64) (a + descriptor_size s a) (a + 3) region (rated_by_region s dimension) region_absent h i)
+      (λ a. first_wide (region_size s) (byte_at s (a + 2) % 64) (a + descriptor_size s a) (a + 3) region (rated_by_region s dimension) region_absent h i)
       no_advisory
 
-  pub wide-dimension : (region dimension end from : ℕ) → 255 < dimension
+  pub wide_dimension : (region dimension end from : ℕ) → 255 < dimension
       → rating_in s region dimension end from ≡ advisory_in s end from (λ a. region_in s region a (λ p. dimension_absent) region_absent) no_advisory
   unfolding rating_in
-  wide-dimension region dimension end from h =
+  wide_dimension region dimension end from h =
       λ i. advisory_in s end from
       (λ a. region_in s region a
-      (λ p. first-wide (λ q. 2) (byte_at s (p + 1)) (p + region_size s p) (p + 2) dimension (λ q. value (byte_at s (q + 1) % 16)) dimension_absent h i)
+      (λ p. first_wide (λ q. 2) (byte_at s (p + 1)) (p + region_size s p) (p + 2) dimension (λ q. value (byte_at s (q + 1) % 16)) dimension_absent h i)
       region_absent)
       no_advisory

@@ -41,10 +41,10 @@ module _ {A : Type 0} (s : List ℕ) (size : ℕ → ℕ) (end at x : ℕ) (told
 
     module _ (b : ℕ) (begins : b ≡ byte_at s at) (fits : at + k ≤ end) where
       -- it is the one
-      pub first-here : (n : ℕ) → 0 < n → b ≡ x → told at ≡ first_match s size n end at x told absent
+      pub first_here : (n : ℕ) → 0 < n → b ≡ x → told at ≡ first_match s size n end at x told absent
       unfolding first_match
-      first-here zero h e = absurd (omega arith)
-      first-here (suc n) h e = lt_no _ _ _ _ (omega arith) (eq_yes _ _ _ _ (sym begins ∙ e) refl)
+      first_here zero h e = absurd (omega arith)
+      first_here (suc n) h e = lt_no _ _ _ _ (omega arith) (eq_yes _ _ _ _ (sym begins ∙ e) refl)
 
       -- it is another
       pub first_next : (n : ℕ) → 0 < n → (b ≡ x → ⊥)
@@ -55,16 +55,16 @@ module _ {A : Type 0} (s : List ℕ) (size : ℕ → ℕ) (end at x : ℕ) (told
 
 -- the same for the descriptor of a number
 module _ (s : List ℕ) (end at k : ℕ) (sized : k ≡ descriptor_size s at) where
-  pub none-past : (n : ℕ) → end < at + k → none ≡ descriptor_in s end n at
+  pub none_past : (n : ℕ) → end < at + k → none ≡ descriptor_in s end n at
   unfolding descriptor_in
-  none-past zero h = lt_yes _ _ _ _ (omega arith) refl
-  none-past (suc n) h = lt_yes _ _ _ _ (omega arith) refl
+  none_past zero h = lt_yes _ _ _ _ (omega arith) refl
+  none_past (suc n) h = lt_yes _ _ _ _ (omega arith) refl
 
-  pub descriptor-here : (n : ℕ) → n ≡ 0 → at + k ≤ end → some (descriptor_at s at) ≡ descriptor_in s end n at
+  pub descriptor_here : (n : ℕ) → n ≡ 0 → at + k ≤ end → some (descriptor_at s at) ≡ descriptor_in s end n at
   unfolding descriptor_in
-  descriptor-here n e h = rw e (lt_no _ _ _ _ (omega arith) refl)
+  descriptor_here n e h = rw e (lt_no _ _ _ _ (omega arith) refl)
 
-  pub descriptor-next : (n : ℕ) → (n ≡ 0 → ⊥) → at + k ≤ end → descriptor_in s end (n - 1) (at + k) ≡ descriptor_in s end n at
+  pub descriptor_next : (n : ℕ) → (n ≡ 0 → ⊥) → at + k ≤ end → descriptor_in s end (n - 1) (at + k) ≡ descriptor_in s end n at
   unfolding descriptor_in
-  descriptor-next zero e h = absurd (e refl)
-  descriptor-next (suc n) e h = lt_no _ _ _ _ (omega arith) (rw (sub-one, sized))
+  descriptor_next zero e h = absurd (e refl)
+  descriptor_next (suc n) e h = lt_no _ _ _ _ (omega arith) (rw (sub-one, sized))

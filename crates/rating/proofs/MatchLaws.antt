@@ -17,7 +17,7 @@ use Rattle.format.proofs.RepeatLaws.{run_fits}
 use Rattle.strings.specs.Strings.{text, sized_text}
 use Rattle.descriptor.specs.Descriptors.{dimension, rated, region, descriptor, descriptors, content_advisory}
 use Rattle.rating.specs.Ratings.{descriptor_size, rated_size, region_size, first_match, advisory_in, region_in, dimension_in}
-use Rattle.rating.proofs.FirstLaws.{dimensions_fit, first_none, first_past, first-here, first_next}
+use Rattle.rating.proofs.FirstLaws.{dimensions_fit, first_none, first_past, first_here, first_next}
 use Rattle.rating.proofs.DescriptorLaws.{size_taken, two, counted}
 
 -- what is walked past n is walked past each of them
@@ -56,9 +56,9 @@ module _ (p : ℕ → Walk) (size : ℕ → ℕ) (end : ℕ) (takes : (at e : �
     abbrev None : ℕ → ℕ → Type 0
     None n at = (i a : ℕ) → i < n → many p i at ≡ To a → byte_at s a ≡ x → ⊥
 
-    none-next : (n at b : ℕ) → p at ≡ To b → None (suc n) at → None n b
+    none_next : (n at b : ℕ) → p at ≡ To b → None (suc n) at → None n b
     unfolding many
-    none-next n at b e none_here i a h m = none_here (suc i) a (omega arith) (then_to _ (many p i) b (To a) e m)
+    none_next n at b e none_here i a h m = none_here (suc i) a (omega arith) (then_to _ (many p i) b (To a) e m)
 
     module _ {A : Type 0} (told : ℕ → A) (absent : A) where
       -- past one that is another
@@ -69,31 +69,31 @@ module _ (p : ℕ → Walk) (size : ℕ → ℕ) (end : ℕ) (takes : (at e : �
           sym (first_next s size end at x told absent _ refl _ refl (omega arith) n h other)
           ∙ ap (λ c. first_match s size (n - 1) end c x told absent) (sym t.0)
 
-      first-is : (n k at a e : ℕ) → many p n at ≡ To e → k < n → many p k at ≡ To a → byte_at s a ≡ x → None k at
+      first_is : (n k at a e : ℕ) → many p n at ≡ To e → k < n → many p k at ≡ To a → byte_at s a ≡ x → None k at
           → first_match s size n end at x told absent ≡ told a
       unfolding many
-      first-is n zero at a e m h r b none_before =
+      first_is n zero at a e m h r b none_before =
           let w = passed p n 0 at a e h m r in
           let t = takes a w.0 w.1 in
           ap (λ at. first_match s size n end at x told absent) (sym (to_is at a r))
-          ∙ sym (first-here s size end a x told absent _ refl _ refl (omega arith) n h b)
-      first-is zero (suc k) at a e m h r b none_before = absurd (omega arith)
-      first-is (suc n) (suc k) at a e m h r b none_before =
+          ∙ sym (first_here s size end a x told absent _ refl _ refl (omega arith) n h b)
+      first_is zero (suc k) at a e m h r b none_before = absurd (omega arith)
+      first_is (suc n) (suc k) at a e m h r b none_before =
           let q = then_inv (p at) (many p n) e m in
           let u = then_inv (p at) (many p k) a r in
           let c = to_is q.0 u.0 (sym q.1.0 ∙ u.1.0) in
           first_rest (suc n) at q.0 (omega arith) q.1.0 (none_before 0 at (omega arith) refl)
           ∙ rw sub-one
-          (first-is n k q.0 a e q.1.1 (omega arith) (ap (many p k) (sym c) ∙ u.1.1) b
-          (none-next k at q.0 q.1.0 none_before))
+          (first_is n k q.0 a e q.1.1 (omega arith) (ap (many p k) (sym c) ∙ u.1.1) b
+          (none_next k at q.0 q.1.0 none_before))
 
-      first-not : (n at e : ℕ) → many p n at ≡ To e → None n at → first_match s size n end at x told absent ≡ absent
+      first_not : (n at e : ℕ) → many p n at ≡ To e → None n at → first_match s size n end at x told absent ≡ absent
       unfolding many
-      first-not zero at e m none_here = sym (first_none s size end at x told absent 0 refl)
-      first-not (suc n) at e m none_here =
+      first_not zero at e m none_here = sym (first_none s size end at x told absent 0 refl)
+      first_not (suc n) at e m none_here =
           let q = then_inv (p at) (many p n) e m in
           first_rest (suc n) at q.0 (omega arith) q.1.0 (none_here 0 at (omega arith) refl)
-          ∙ rw sub-one (first-not n q.0 e q.1.1 (none-next n at q.0 q.1.0 none_here))
+          ∙ rw sub-one (first_not n q.0 e q.1.1 (none_next n at q.0 q.1.0 none_here))
 
       -- where n come to the end, more are no more
       first_more : ((at : ℕ) → 0 < size at) → (n m at : ℕ) → many p n at ≡ To end → n ≤ m
@@ -118,8 +118,8 @@ module _ (s : List ℕ) (p number : ℕ) {A : Type 0} (told : ℕ → A) (absent
   walk a = fields_to (8 ∷ 8 ∷ []) a (p + region_size s p)
 
   -- past k dimensions
-  past-some : (k : ℕ) → k ≤ byte_at s (p + 1) → many walk k (p + 2) ≡ To (p + 2 + 2 * k)
-  past-some k h = sym (run_fits 2 (p + region_size s p) k (p + 2) (omega (arith, dimensions_fit s p _ refl)))
+  past_some : (k : ℕ) → k ≤ byte_at s (p + 1) → many walk k (p + 2) ≡ To (p + 2 + 2 * k)
+  past_some k h = sym (run_fits 2 (p + region_size s p) k (p + 2) (omega (arith, dimensions_fit s p _ refl)))
 
   takes_two : (at e : ℕ) → walk at ≡ To e → (e ≡ at + 2) × (e ≤ p + region_size s p)
   takes_two at = fields_end 8 (8 ∷ []) 2 refl at (p + region_size s p)
@@ -127,14 +127,14 @@ module _ (s : List ℕ) (p number : ℕ) {A : Type 0} (told : ℕ → A) (absent
   pub dimension_is : (k : ℕ) → k < byte_at s (p + 1) → byte_at s (p + 2 + 2 * k) ≡ number
       → ((i : ℕ) → i < k → byte_at s (p + 2 + 2 * i) ≡ number → ⊥) → dimension_in s number p told absent ≡ told (p + 2 + 2 * k)
   dimension_is k h b none_before =
-      first-is walk (λ q. 2) _ takes_two s number told absent _ k (p + 2) _ _ (past-some _ (omega arith)) h (past-some k (omega arith)) b
-      (λ i a l m e. none_before i l (ap (byte_at s) (to_is a _ (sym m ∙ past-some i (omega arith))) ∙ e))
+      first_is walk (λ q. 2) _ takes_two s number told absent _ k (p + 2) _ _ (past_some _ (omega arith)) h (past_some k (omega arith)) b
+      (λ i a l m e. none_before i l (ap (byte_at s) (to_is a _ (sym m ∙ past_some i (omega arith))) ∙ e))
 
-  pub dimension-not : ((i : ℕ) → i < byte_at s (p + 1) → byte_at s (p + 2 + 2 * i) ≡ number → ⊥)
+  pub dimension_not : ((i : ℕ) → i < byte_at s (p + 1) → byte_at s (p + 2 + 2 * i) ≡ number → ⊥)
       → dimension_in s number p told absent ≡ absent
-  dimension-not none_here =
-      first-not walk (λ q. 2) _ takes_two s number told absent _ (p + 2) _ (past-some _ (omega arith))
-      (λ i a l m e. none_here i l (ap (byte_at s) (to_is a _ (sym m ∙ past-some i (omega arith))) ∙ e))
+  dimension_not none_here =
+      first_not walk (λ q. 2) _ takes_two s number told absent _ (p + 2) _ (past_some _ (omega arith))
+      (λ i a l m e. none_here i l (ap (byte_at s) (to_is a _ (sym m ∙ past_some i (omega arith))) ∙ e))
 
 -- ---- regions
 -- dimensions take two bytes each
@@ -176,14 +176,14 @@ module _ (s : List ℕ) (a number : ℕ) {A : Type 0} (told : ℕ → A) (absent
   Regions k p = many (walks region s (a + descriptor_size s a)) k (a + 3) ≡ To p
 
   module _ (e : ℕ) (walked : Regions (byte_at s (a + 2) % 64) e) where
-    pub region-is : (k p : ℕ) → k < byte_at s (a + 2) % 64 → Regions k p → byte_at s p ≡ number
+    pub region_is : (k p : ℕ) → k < byte_at s (a + 2) % 64 → Regions k p → byte_at s p ≡ number
         → ((i q : ℕ) → i < k → Regions i q → byte_at s q ≡ number → ⊥) → region_in s number a told absent ≡ told p
-    region-is k p h r b none_before =
-        first-is _ (region_size s) _ (region_taken s _) s number told absent _ k (a + 3) p e walked h r b none_before
+    region_is k p h r b none_before =
+        first_is _ (region_size s) _ (region_taken s _) s number told absent _ k (a + 3) p e walked h r b none_before
 
-    pub region-not : ((i q : ℕ) → i < byte_at s (a + 2) % 64 → Regions i q → byte_at s q ≡ number → ⊥)
+    pub region_not : ((i q : ℕ) → i < byte_at s (a + 2) % 64 → Regions i q → byte_at s q ≡ number → ⊥)
         → region_in s number a told absent ≡ absent
-    region-not = first-not _ (region_size s) _ (region_taken s _) s number told absent _ (a + 3) e walked
+    region_not = first_not _ (region_size s) _ (region_taken s _) s number told absent _ (a + 3) e walked
 
 -- ---- descriptors
 -- of a list that the walk accepts, the first content advisory is told, and where none is one it is absent
@@ -200,21 +200,21 @@ module _ (judged : ℕ) (s : List ℕ) (end from : ℕ) (accepted : walks_all (d
       first_more _ (descriptor_size s) end (size_taken judged s end) s content_advisory told absent
       (λ a. omega (arith, two s a)) n end from m (omega arith)
 
-  pub advisory-is : (k a : ℕ) → a < end → Descriptors k a → byte_at s a ≡ content_advisory
+  pub advisory_is : (k a : ℕ) → a < end → Descriptors k a → byte_at s a ≡ content_advisory
       → ((i c : ℕ) → i < k → Descriptors i c → byte_at s c ≡ content_advisory → ⊥) → advisory_in s end from told absent ≡ told a
-  advisory-is k a h r b none_before =
+  advisory_is k a h r b none_before =
       let n = counted judged s end from accepted in
       let l = fewer _ (descriptor_size s) end (size_taken judged s end) (λ a. omega (arith, two s a)) n.0 k from a n.1.0 r h in
       enough n.0 n.1.0 n.1.1
-      ∙ first-is _ (descriptor_size s) end (size_taken judged s end) s content_advisory told absent
+      ∙ first_is _ (descriptor_size s) end (size_taken judged s end) s content_advisory told absent
       n.0 k from a end n.1.0 l r b none_before
 
-  pub advisory-not : ((i c : ℕ) → c < end → Descriptors i c → byte_at s c ≡ content_advisory → ⊥)
+  pub advisory_not : ((i c : ℕ) → c < end → Descriptors i c → byte_at s c ≡ content_advisory → ⊥)
       → advisory_in s end from told absent ≡ absent
-  advisory-not none_here =
+  advisory_not none_here =
       let n = counted judged s end from accepted in
       enough n.0 n.1.0 n.1.1
-      ∙ first-not _ (descriptor_size s) end (size_taken judged s end) s content_advisory told absent n.0 from end n.1.0
+      ∙ first_not _ (descriptor_size s) end (size_taken judged s end) s content_advisory told absent n.0 from end n.1.0
       (λ i a h r.
       let w = passed _ n.0 i from a end h n.1.0 r in
       let t = size_taken judged s end a w.0 w.1 in

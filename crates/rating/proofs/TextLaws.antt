@@ -11,8 +11,8 @@ use Rattle.format.specs.Repeats.{Bytes}
 use Rattle.strings.specs.Strings.{text, sized_text}
 use Rattle.descriptor.specs.Descriptors.{region, advisory, content, descriptor, descriptors, descriptors_of, region_bytes, descriptor_bytes, content_advisory}
 use Rattle.rating.specs.Values.{text_from, text_by, region_place, place_from, text_place}
-use Rattle.rating.proofs.ListedLaws.{sought-there}
-use Rattle.rating.proofs.ValueLaws.{text-values, advisory-values, descriptor-values}
+use Rattle.rating.proofs.ListedLaws.{sought_there}
+use Rattle.rating.proofs.ValueLaws.{text_values, advisory_values, descriptor_values}
 
 -- the text is well formed and lies at the place; or there is neither
 abbrev Stands : List ℕ → Option Part → Option text.Val → Type 0
@@ -30,33 +30,33 @@ none_stands s (some t) h = absurd h
 none_stands s none h = refl
 
 module _ (s : List ℕ) (z : Bytes s) (x : ℕ) where
-  region-stands : (p : ℕ) (g : region.Val) → region.Ok (record {}) g → Lies (region.enc g) s p
+  region_stands : (p : ℕ) (g : region.Val) → region.Ok (record {}) g → Lies (region.enc g) s p
       → unfold region in (Stands s (region_place p g) (some g.text))
   unfolding region sized_text region_place
-  region-stands p g o l = (o.1.1.1.1, ((text-values s z p g o l).1, refl))
+  region_stands p g o l = (o.1.1.1.1, ((text_values s z p g o l).1, refl))
 
-  content-stands : (a tag : ℕ) (c : (content content_advisory).Val) → (content content_advisory).Ok tag c
+  content_stands : (a tag : ℕ) (c : (content content_advisory).Val) → (content content_advisory).Ok tag c
       → Lies ((content content_advisory).enc c) s (a + 2) → unfold content advisory in (Stands s (place_from x a c) (text_from x c))
   unfolding content advisory region region_bytes place_from text_from
-  content-stands a tag (inl v) o l =
-      sought-there (region.Ok (record {})) region.enc (λ g. g.region) s x (Stands s) region_place none (λ g. some g.text) none (record {})
-      region-stands (a + 3) v.regions o.1.1.1.1 (advisory-values s z a v o.1 l).1
-  content-stands a tag (inr b) o l = record {}
+  content_stands a tag (inl v) o l =
+      sought_there (region.Ok (record {})) region.enc (λ g. g.region) s x (Stands s) region_place none (λ g. some g.text) none (record {})
+      region_stands (a + 3) v.regions o.1.1.1.1 (advisory_values s z a v o.1 l).1
+  content_stands a tag (inr b) o l = record {}
 
   module _ (from : ℕ) (ds : (descriptors content_advisory).Val) (o : (descriptors content_advisory).Ok (record {}) ds)
       (l : Lies ((descriptors content_advisory).enc ds) s from) where
-    text-stands : Stands s (text_place x from (descriptors_of content_advisory ds)) (text_by x (descriptors_of content_advisory ds))
+    text_stands : Stands s (text_place x from (descriptors_of content_advisory ds)) (text_by x (descriptors_of content_advisory ds))
     unfolding descriptors descriptor content advisory descriptors_of descriptor_bytes text_place text_by
-    text-stands =
+    text_stands =
         let f = descriptor content_advisory in
-        sought-there (f.Ok (record {})) f.enc (λ d. d.tag) s content_advisory (Stands s) (λ a d. place_from x a d.content) none
+        sought_there (f.Ok (record {})) f.enc (λ d. d.tag) s content_advisory (Stands s) (λ a d. place_from x a d.content) none
         (λ d. text_from x d.content) none (record {})
-        (λ a d o l. content-stands a d.tag d.content o.1.1.1 (descriptor-values content_advisory s z a d o l).1) from ds o l
+        (λ a d o l. content_stands a d.tag d.content o.1.1.1 (descriptor_values content_advisory s z a d o l).1) from ds o l
 
-    pub text-lies : (p : Part) → text_place x from (descriptors_of content_advisory ds) ≡ some p
+    pub text_lies : (p : Part) → text_place x from (descriptors_of content_advisory ds) ≡ some p
         → (t : text.Val) × ((text_by x (descriptors_of content_advisory ds) ≡ some t)
         × (text.Ok (record {}) t × (Lies (text.enc t) s p.start × (p.length ≡ length (text.enc t)))))
-    text-lies p e = one_stands s p _ (subst (λ q. Stands s q (text_by x (descriptors_of content_advisory ds))) e text-stands)
+    text_lies p e = one_stands s p _ (subst (λ q. Stands s q (text_by x (descriptors_of content_advisory ds))) e text_stands)
 
-    pub text-none : text_place x from (descriptors_of content_advisory ds) ≡ none → text_by x (descriptors_of content_advisory ds) ≡ none
-    text-none e = none_stands s _ (subst (λ q. Stands s q (text_by x (descriptors_of content_advisory ds))) e text-stands)
+    pub text_none : text_place x from (descriptors_of content_advisory ds) ≡ none → text_by x (descriptors_of content_advisory ds) ≡ none
+    text_none e = none_stands s _ (subst (λ q. Stands s q (text_by x (descriptors_of content_advisory ds))) e text_stands)

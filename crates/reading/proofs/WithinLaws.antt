@@ -10,7 +10,7 @@ use Rattle.part.specs.declared.Part.{Part}
 use Rattle.bytes_at.specs.Inner.{Stands}
 use Rattle.refusal.specs.Outcomes.{resulted}
 use Rattle.kind.specs.declared.Kind.TheVariants.{Ett}
-use Rattle.kind.specs.Kinds.{limits_of, only_of}
+use Rattle.kind.specs.Kinds.{limitsOf, onlyOf}
 use Rattle.format.specs.Formats.{walks}
 use Rattle.part.specs.Parts.{end_of, bytes_in}
 use Rattle.rating.specs.Values.{Descriptor}
@@ -19,7 +19,7 @@ use Rattle.rating.proofs.AnswerLaws.{text_within}
 use Rattle.eit.specs.Walked.{event}
 use Rattle.eit.specs.Fields.{title_part, descriptors_at}
 use Rattle.eit.specs.Questions.{event_descriptor, advisory_text_at}
-use Rattle.eit.proofs.EventLaws.{title-sound, descriptors-sound}
+use Rattle.eit.proofs.EventLaws.{title_sound, descriptors_sound}
 use Rattle.ett.specs.Fields.{fields_at}
 use Rattle.ett.proofs.TextLaws.{body_text}
 use Rattle.section.specs.declared.header.Header.{Header}
@@ -40,33 +40,33 @@ module _ (s : List ℕ) (i a : ℕ) (found : spot_of Event s i ≡ resulted a) w
   unfolding format_of
   stood = entry_stands Event s i a found
 
-  pub title-whole : length (bytes_in s (title_part s a)) ≡ (title_part s a).length
-  title-whole =
-      all_there s (title_part s a).start (title_part s a).length (omega (arith, (title-sound s (length s - 4) a stood.0 stood.1).0))
+  pub title_whole : length (bytes_in s (title_part s a)) ≡ (title_part s a).length
+  title_whole =
+      all_there s (title_part s a).start (title_part s a).length (omega (arith, (title_sound s (length s - 4) a stood.0 stood.1).0))
 
-  pub descriptors-whole : length (bytes_in s (descriptors_at s a)) ≡ (descriptors_at s a).length
-  descriptors-whole =
+  pub descriptors_whole : length (bytes_in s (descriptors_at s a)) ≡ (descriptors_at s a).length
+  descriptors_whole =
       all_there s (descriptors_at s a).start (descriptors_at s a).length
-      (omega (arith, (descriptors-sound s (length s - 4) a stood.0 stood.1).0))
+      (omega (arith, (descriptors_sound s (length s - 4) a stood.0 stood.1).0))
 
-  pub content-whole : (k : ℕ) (d : Descriptor) → event_descriptor s a k ≡ some d → length (take d.size (drop d.start s)) ≡ d.size
+  pub content_whole : (k : ℕ) (d : Descriptor) → event_descriptor s a k ≡ some d → length (take d.size (drop d.start s)) ≡ d.size
   unfolding event_descriptor
-  content-whole k d f =
-      let l = (descriptors-sound s (length s - 4) a stood.0 stood.1).0 in
+  content_whole k d f =
+      let l = (descriptors_sound s (length s - 4) a stood.0 stood.1).0 in
       all_there s d.start d.size (omega (arith, l, descriptor_within s (end_of (descriptors_at s a)) k (descriptors_at s a).start d f))
 
-  pub advisory-whole : (region : ℕ) (t : Part) → advisory_text_at s a region ≡ some t → length (take t.length (drop t.start s)) ≡ t.length
+  pub advisory_whole : (region : ℕ) (t : Part) → advisory_text_at s a region ≡ some t → length (take t.length (drop t.start s)) ≡ t.length
   unfolding advisory_text_at
-  advisory-whole region t f =
-      let l = (descriptors-sound s (length s - 4) a stood.0 stood.1).0 in
+  advisory_whole region t f =
+      let l = (descriptors_sound s (length s - 4) a stood.0 stood.1).0 in
       all_there s t.start t.length (omega (arith, l, text_within s region (end_of (descriptors_at s a)) (descriptors_at s a).start t f))
 
 -- and the text of an ETT
-pub text_whole : (s : List ℕ) (h : Header) (extension : ℕ) → section_by (only_of Ett) s ≡ resulted h
-    → length (bytes_in s (fields_at s extension (limits_of Ett).body (length s - 4)).text)
-    ≡ (fields_at s extension (limits_of Ett).body (length s - 4)).text.length
+pub text_whole : (s : List ℕ) (h : Header) (extension : ℕ) → section_by (onlyOf Ett) s ≡ resulted h
+    → length (bytes_in s (fields_at s extension (limitsOf Ett).body (length s - 4)).text)
+    ≡ (fields_at s extension (limitsOf Ett).body (length s - 4)).text.length
 unfolding fields_at body_of
 text_whole s h extension e =
     let w = (section_sound Ett s h e).1 in
-    let t = (body_text s (length s - 4) (limits_of Ett).body w.0 w.1).0 in
+    let t = (body_text s (length s - 4) (limitsOf Ett).body w.0 w.1).0 in
     all_there s 13 (length s - 4 - 13) (omega arith)

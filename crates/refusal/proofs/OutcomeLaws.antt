@@ -20,13 +20,13 @@ went_on n false o a e = not_both n a e
 
 -- ---- one after another
 module _ {A B : Type 0} (x : Outcome A) (k : A → Outcome B) where
-  pub after-result : (a : A) → x ≡ resulted a → after x k ≡ k a
+  pub after_result : (a : A) → x ≡ resulted a → after x k ≡ k a
   unfolding after
-  after-result a e = rw e
+  after_result a e = rw e
 
-  pub after-refused : (n : ℕ) → x ≡ refused n → after x k ≡ refused n
+  pub after_refused : (n : ℕ) → x ≡ refused n → after x k ≡ refused n
   unfolding after
-  after-refused n e = rw e
+  after_refused n e = rw e
 
 -- what comes after another call, and is not refused: nor was that one
 pub after_is : {A B : Type 0} (x : Outcome A) (k : A → Outcome B) (b : B) → after x k ≡ resulted b → (a : A) × ((x ≡ resulted a) × (k a ≡ resulted b))

@@ -7,7 +7,7 @@ use native.Mathlib.Omega.{arith}
 use lib.ListN.{length, length-append}
 use lib.Seq.{sets, length-sets}
 use Rattle.refusal.specs.Outcomes.{refused, resulted}
-use Rattle.refusal.proofs.TestLaws.{lets-le, stops-le}
+use Rattle.refusal.proofs.TestLaws.{lets_le, stops_le}
 use Rattle.format.specs.Repeats.{Bytes}
 use Rattle.strings.specs.Places.{text_end}
 use Rattle.row.proofs.RowLaws.{sets_append}
@@ -21,7 +21,7 @@ use Rattle.rows.specs.declared.Row.TheVariants.{Dimension}
 use Rattle.rows.specs.Rows.{next_at, room_for_rows}
 use Rattle.rows.specs.Values.{value_rows, dimension_rows, value_count, value_rows_in, with_value_rows}
 use Rattle.rows.specs.Inner.{Entries}
-use Rattle.rows.proofs.RowsLaws.{entries-step}
+use Rattle.rows.proofs.RowsLaws.{entries_step}
 
 -- ---- the values of a dimension
 -- what holds while their rows are stored: those that are left stand, their rows have room, to store them leads to the answer, and
@@ -45,11 +45,11 @@ module _ (s : List ℕ) (i : ℕ) where
       let e = length-append (value_row s i j a) (value_rows s i (j + 1) n (value_end s a)) in
       omega (arith, e, row_six s i j a, rows_length (j + 1) n (value_end s a))
 
-  value-more : (l : List ℕ) (p j n a : ℕ) → 0 < n
+  value_more : (l : List ℕ) (p j n a : ℕ) → 0 < n
       → sets (sets l p (value_row s i j a)) (p + 6) (value_rows s i (j + 1) (n - 1) (value_end s a)) ≡ sets l p (value_rows s i j n a)
   unfolding value_rows
-  value-more l p j zero a h = absurd (omega arith)
-  value-more l p j (suc n) a h =
+  value_more l p j zero a h = absurd (omega arith)
+  value_more l p j (suc n) a h =
       rw sub-one
       (ap (λ (k : ℕ). sets (sets l p (value_row s i j a)) (p + k) (value_rows s i (j + 1) n (value_end s a))) (sym (row_six s i j a))
       ∙ sym (sets_append (value_row s i j a) (value_rows s i (j + 1) n (value_end s a)) l p))
@@ -60,28 +60,28 @@ module _ (s : List ℕ) (i : ℕ) where
 
   module _ (last size : ℕ) (final l : List ℕ) (j a p n : ℕ) (left : ValuesLeft s i last size final l j a p n) where
     -- the next row has room
-    pub values-room : 0 < n → p + 6 ≤ length l
-    values-room h = omega (arith, left.room, left.same)
+    pub values_room : 0 < n → p + 6 ≤ length l
+    values_room h = omega (arith, left.room, left.same)
 
-    pub values-next : (m : List ℕ) (b k : ℕ) → 0 < n → m ≡ sets l p (value_row s i j a) → b ≡ value_end s a → k ≡ n - 1
+    pub values_next : (m : List ℕ) (b k : ℕ) → 0 < n → m ≡ sets l p (value_row s i j a) → b ≡ value_end s a → k ≡ n - 1
         → ValuesLeft s i last size final m (j + 1) b (p + 6) k
-    values-next m b k h put next e =
+    values_next m b k h put next e =
         rw (next, e)
         (record {
           stand = (values_step s n a h left.stand).1;
           same = ap length put ∙ length-sets l p (value_row s i j a) ∙ left.same;
           room = omega (arith, left.room);
           ends = values_more s n a h ∙ left.ends;
-          leads = rw put (value-more l p j n a h ∙ left.leads);
+          leads = rw put (value_more l p j n a h ∙ left.leads);
         })
 
-    pub values-done : n ≡ 0 → (a ≡ last) × (l ≡ final)
-    values-done e = (values_none s n a e ∙ left.ends, value_none l p j n a e ∙ left.leads)
+    pub values_done : n ≡ 0 → (a ≡ last) × (l ≡ final)
+    values_done e = (values_none s n a e ∙ left.ends, value_none l p j n a e ∙ left.leads)
 
 -- ---- the dimensions
 pub dimensions_step : (s : List ℕ) (n d : ℕ) → 0 < n → Entries Dimension s n d → Entries Dimension s (n - 1) (dimension_end s d)
 unfolding next_at
-dimensions_step s n d h t = entries-step Dimension s n d h t
+dimensions_step s n d h t = entries_step Dimension s n d h t
 
 pub count_step : (s : List ℕ) (n d : ℕ) → 0 < n → value_count s n d ≡ values_at s d + value_count s (n - 1) (dimension_end s d)
 unfolding value_count
@@ -104,40 +104,40 @@ pub dimensions_begin : (s : List ℕ) (n k d : ℕ) (l : List ℕ) → k ≡ n �
 dimensions_begin s n k d l e t h = rw e (record { entries = t; same = refl; room = omega (arith, h); leads = refl })
 
 module _ (s : List ℕ) where
-  dimension-more : (l : List ℕ) (p i n d : ℕ) → 0 < n
+  dimension_more : (l : List ℕ) (p i n d : ℕ) → 0 < n
       → sets (sets l p (value_rows s i 0 (values_at s d) (first_value_at s d))) (p + 6 * values_at s d) (dimension_rows s (i + 1) (n - 1) (dimension_end s d))
       ≡ sets l p (dimension_rows s i n d)
   unfolding dimension_rows
-  dimension-more l p i zero d h = absurd (omega arith)
-  dimension-more l p i (suc n) d h =
+  dimension_more l p i zero d h = absurd (omega arith)
+  dimension_more l p i (suc n) d h =
       let xs = value_rows s i 0 (values_at s d) (first_value_at s d) in
       rw sub-one
       (ap (λ (k : ℕ). sets (sets l p xs) (p + k) (dimension_rows s (i + 1) n (dimension_end s d))) (sym (rows_length s i 0 (values_at s d) (first_value_at s d)))
       ∙ sym (sets_append xs (dimension_rows s (i + 1) n (dimension_end s d)) l p))
 
-  dimension-none : (l : List ℕ) (p i n d : ℕ) → n ≡ 0 → l ≡ sets l p (dimension_rows s i n d)
+  dimension_none : (l : List ℕ) (p i n d : ℕ) → n ≡ 0 → l ≡ sets l p (dimension_rows s i n d)
   unfolding dimension_rows
-  dimension-none l p i n d e = rw e
+  dimension_none l p i n d e = rw e
 
   module _ (size : ℕ) (final l : List ℕ) (i d p n : ℕ) (left : DimensionsLeft s size final l i d p n) where
     -- the rows of the next dimension's values have room
-    pub dimensions-room : 0 < n → p + 6 * values_at s d ≤ length l
-    dimensions-room h = let e = count_step s n d h in omega (arith, e, left.room, left.same)
+    pub dimensions_room : 0 < n → p + 6 * values_at s d ≤ length l
+    dimensions_room h = let e = count_step s n d h in omega (arith, e, left.room, left.same)
 
-    pub dimensions-next : (m : List ℕ) (b v f k : ℕ) → 0 < n → v ≡ values_at s d → f ≡ first_value_at s d → m ≡ sets l p (value_rows s i 0 v f)
+    pub dimensions_next : (m : List ℕ) (b v f k : ℕ) → 0 < n → v ≡ values_at s d → f ≡ first_value_at s d → m ≡ sets l p (value_rows s i 0 v f)
         → b ≡ values_end s v f → k ≡ n - 1 → DimensionsLeft s size final m (i + 1) b (p + 6 * v) k
     unfolding dimension_end
-    dimensions-next m b v f k h many first put next e =
+    dimensions_next m b v f k h many first put next e =
         rw (next, e, many, first)
         (record {
           entries = dimensions_step s n d h left.entries;
           same = ap length put ∙ length-sets l p (value_rows s i 0 v f) ∙ left.same;
           room = let c = count_step s n d h in omega (arith, c, left.room);
-          leads = rw (put, many, first) (dimension-more l p i n d h ∙ left.leads);
+          leads = rw (put, many, first) (dimension_more l p i n d h ∙ left.leads);
         })
 
-    pub dimensions-done : n ≡ 0 → l ≡ final
-    dimensions-done e = dimension-none l p i n d e ∙ left.leads
+    pub dimensions_done : n ≡ 0 → l ≡ final
+    dimensions_done e = dimension_none l p i n d e ∙ left.leads
 
 -- ---- whether the rows of all values have room, and what the lent list is then
 pub dimensions_few : (s : List ℕ) → Bytes s → entry_count entries.Dimension s < 256
@@ -145,19 +145,19 @@ unfolding entry_count
 dimensions_few s z = omega (arith, z (text_end s 9))
 
 module _ (s l : List ℕ) (n : ℕ) (counted : n ≡ value_count s (entry_count entries.Dimension s) (first_entry entries.Dimension s)) where
-  pub values-short : length l < 6 * n → (refused 12 ≡ value_rows_in s (length l)) × (l ≡ with_value_rows s (value_rows_in s (length l)) l)
+  pub values_short : length l < 6 * n → (refused 12 ≡ value_rows_in s (length l)) × (l ≡ with_value_rows s (value_rows_in s (length l)) l)
   unfolding value_rows_in room_for_rows with_value_rows
-  values-short h =
+  values_short h =
       let k = rw counted at h in
       let c = value_count s (entry_count entries.Dimension s) (first_entry entries.Dimension s) in
-      let e = stops-le 12 (6 * c) (length l) (resulted c) {r = refused 12} k refl in
+      let e = stops_le 12 (6 * c) (length l) (resulted c) {r = refused 12} k refl in
       (e, rw (← e))
 
-  pub values-fit : (m : List ℕ) → 6 * n ≤ length l → m ≡ sets l 0 (dimension_rows s 0 (entry_count entries.Dimension s) (first_entry entries.Dimension s))
+  pub values_fit : (m : List ℕ) → 6 * n ≤ length l → m ≡ sets l 0 (dimension_rows s 0 (entry_count entries.Dimension s) (first_entry entries.Dimension s))
       → (resulted n ≡ value_rows_in s (length l)) × (m ≡ with_value_rows s (value_rows_in s (length l)) l)
   unfolding value_rows_in room_for_rows with_value_rows
-  values-fit m h put =
+  values_fit m h put =
       let k = rw counted at h in
       let c = value_count s (entry_count entries.Dimension s) (first_entry entries.Dimension s) in
-      let e = lets-le 12 (6 * c) (length l) (resulted c) {r = resulted n} k (ap resulted counted) in
+      let e = lets_le 12 (6 * c) (length l) (resulted c) {r = resulted n} k (ap resulted counted) in
       (e, rw (← e) put)

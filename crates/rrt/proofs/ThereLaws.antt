@@ -11,8 +11,8 @@ use Rattle.format.specs.Laws.OfValues.{bytes_length}
 use Rattle.format.specs.Formats.{walks_all}
 use Rattle.format.specs.Values.{Vals, number, bytes_of}
 use Rattle.format.specs.Heads.{vals_at}
-use Rattle.format.specs.Told.{sized8, sized10, fewNotNone, not_none}
-use Rattle.format.proofs.SizedLaws.{fewNotNone-there, notNone-there}
+use Rattle.format.specs.Told.{sized8, sized10, few_not_none, not_none}
+use Rattle.format.proofs.SizedLaws.{few_not_none_there, not_none_there}
 use Rattle.format.proofs.ListedLaws.{Stand}
 use Rattle.part.specs.Parts.{end_of}
 use Rattle.strings.specs.Strings.{text, sized_text}
@@ -20,7 +20,7 @@ use Rattle.strings.specs.Places.{text_at, text_end}
 use Rattle.strings.proofs.TextLaws.{text_there, text_end_there}
 use Rattle.descriptor.specs.Descriptors.{descriptors, no_tag}
 use Rattle.descriptor.specs.Places.{list10, list_at}
-use Rattle.descriptor.proofs.ListLaws.{list10-there}
+use Rattle.descriptor.proofs.ListLaws.{list10_there}
 use Rattle.row.specs.Rows.{part_row}
 use Rattle.rrt.specs.declared.dimension.Dimension.{Dimension}
 use Rattle.rrt.specs.declared.dimension.ValueTexts.{ValueTexts}
@@ -30,7 +30,7 @@ use Rattle.rrt.specs.Format.{RrtFields, rrt_format}
 use Rattle.rrt.specs.Walked.{dimensions, dimensions_and_list, rrt}
 use Rattle.rrt.specs.Fields.{count_at, first_at, fields_at, values_at, first_value_at, dimension_at, texts_at, value_end, dimension_end, dimension_row, texts_row, value_row}
 use Rattle.rrt.specs.Values.{part_for, texts_for, value_row_for, dimension_for, row_for, first_value_for, first_for, dimensions_end, fields_for}
-use Rattle.rrt.proofs.WalkLaws.{value-ends, dimension-ends}
+use Rattle.rrt.proofs.WalkLaws.{value_ends, dimension_ends}
 
 -- a text that lies with its length, which stands at `at`, and more bytes that lie behind it
 record Placed (s : List ℕ) (at : ℕ) (x : text.Val) (more : List ℕ) : Type 0 where
@@ -52,77 +52,77 @@ module _ (s : List ℕ) (z : Bytes s) where
 
   -- ---- a value
   module _ (a : ℕ) (v : ValueFields) (o : value_format.Ok (record {}) v) (l : Lies (value_format.enc v) s a) where
-    short-placed : Placed s a v.short ((sized8 text).enc (record {}, v.long))
-    short-placed = placed a v.short ((sized8 text).enc (record {}, v.long)) o.0 l
+    short_placed : Placed s a v.short ((sized8 text).enc (record {}, v.long))
+    short_placed = placed a v.short ((sized8 text).enc (record {}, v.long)) o.0 l
 
-    long-placed : (text_at s (end_of (part_for a v.short)) ≡ (texts_for a v).long_text)
+    long_placed : (text_at s (end_of (part_for a v.short)) ≡ (texts_for a v).long_text)
         × Lies (text.enc v.long) s (texts_for a v).long_text.start
-    long-placed =
-        text_there s (end_of (part_for a v.short)) z v.long o.1 (lies_at _ s _ _ short-placed.ends short-placed.behind)
+    long_placed =
+        text_there s (end_of (part_for a v.short)) z v.long o.1 (lies_at _ s _ _ short_placed.ends short_placed.behind)
 
     pub value_there : texts_at s a ≡ texts_for a v
     unfolding texts_at
     value_there =
-        let p = short-placed.part in
-        let q = ap (text_at s) short-placed.ends ∙ long-placed.0 in
+        let p = short_placed.part in
+        let q = ap (text_at s) short_placed.ends ∙ long_placed.0 in
         λ i. record { short_text = p i; long_text = q i }
 
-    pub value-row-there : (i j : ℕ) → value_row s i j a ≡ value_row_for i j a v
+    pub value_row_there : (i j : ℕ) → value_row s i j a ≡ value_row_for i j a v
     unfolding value_row texts_row
-    value-row-there i j = ap (λ (t : ValueTexts). (i ∷ j ∷ []) ++ (part_row t.short_text ++ part_row t.long_text)) value_there
+    value_row_there i j = ap (λ (t : ValueTexts). (i ∷ j ∷ []) ++ (part_row t.short_text ++ part_row t.long_text)) value_there
 
-    pub value-end-there : value_end s a ≡ a + length (value_format.enc v)
+    pub value_end_there : value_end s a ≡ a + length (value_format.enc v)
     unfolding value
-    value-end-there =
-        sym (value-ends s (a + length (value_format.enc v)) a _ ((value_format.law (record {})).sound s (a + length (value_format.enc v)) a v o l (omega arith)))
+    value_end_there =
+        sym (value_ends s (a + length (value_format.enc v)) a _ ((value_format.law (record {})).sound s (a + length (value_format.enc v)) a v o l (omega arith)))
 
-    pub short-lies : text.Ok (record {}) v.short × Lies (text.enc v.short) s (texts_for a v).short_text.start
-    short-lies = (o.0.1.1.1, short-placed.lies)
+    pub short_lies : text.Ok (record {}) v.short × Lies (text.enc v.short) s (texts_for a v).short_text.start
+    short_lies = (o.0.1.1.1, short_placed.lies)
 
-    pub long-lies : text.Ok (record {}) v.long × Lies (text.enc v.long) s (texts_for a v).long_text.start
-    long-lies = (o.1.1.1.1, long-placed.1)
+    pub long_lies : text.Ok (record {}) v.long × Lies (text.enc v.long) s (texts_for a v).long_text.start
+    long_lies = (o.1.1.1.1, long_placed.1)
 
   -- ---- a dimension
   module _ (d : ℕ) (x : DimensionFields) (o : dimension_format.Ok (record {}) x) (l : Lies (dimension_format.enc x) s d) where
     -- its scale and its values, as they are told behind its name
     abbrev told : List ℕ
-    told = (fewNotNone scale_head 4 refl value_format).enc ((x.r, (x.scale, record {})), x.values)
+    told = (few_not_none scale_head 4 refl value_format).enc ((x.r, (x.scale, record {})), x.values)
 
-    name-placed : Placed s d x.name told
-    name-placed = placed d x.name told o.0 l
+    name_placed : Placed s d x.name told
+    name_placed = placed d x.name told o.0 l
 
     counted : ((vals_at scale_head s (text_end s d) 0 ≡ (x.r, (x.scale, record {}))) × (values_at s d ≡ length x.values))
         × Lies (encs value_format.enc x.values) s (first_value_at s d)
     counted =
-        fewNotNone-there s z (text_end s d) scale_head 4 refl value_format (x.r, (x.scale, record {})) x.values o.1 name-placed.behind
+        few_not_none_there s z (text_end s d) scale_head 4 refl value_format (x.r, (x.scale, record {})) x.values o.1 name_placed.behind
 
-    pub dimension-there : dimension_at s d ≡ dimension_for d x
+    pub dimension_there : dimension_at s d ≡ dimension_for d x
     unfolding dimension_at
-    dimension-there =
-        let n = name-placed.part in
+    dimension_there =
+        let n = name_placed.part in
         let c = ap (λ (v : Vals scale_head). v.1.0) counted.0.0 in
         let v = counted.0.1 in
         λ i. record { name = n i; graduated_scale = c i; values = v i }
 
-    pub row-there : dimension_row s d ≡ row_for d x
+    pub row_there : dimension_row s d ≡ row_for d x
     unfolding dimension_row
-    row-there = ap (λ (y : Dimension). part_row y.name ++ (y.graduated_scale ∷ y.values ∷ [])) dimension-there
+    row_there = ap (λ (y : Dimension). part_row y.name ++ (y.graduated_scale ∷ y.values ∷ [])) dimension_there
 
-    pub end-there : dimension_end s d ≡ d + length (dimension_format.enc x)
+    pub end_there : dimension_end s d ≡ d + length (dimension_format.enc x)
     unfolding dimension
-    end-there =
-        sym (dimension-ends s (d + length (dimension_format.enc x)) d _ ((dimension_format.law (record {})).sound s (d + length (dimension_format.enc x)) d x o l (omega arith)))
+    end_there =
+        sym (dimension_ends s (d + length (dimension_format.enc x)) d _ ((dimension_format.law (record {})).sound s (d + length (dimension_format.enc x)) d x o l (omega arith)))
 
-    pub dimension-name-lies : text.Ok (record {}) x.name × Lies (text.enc x.name) s (dimension_for d x).name.start
-    dimension-name-lies = (o.0.1.1.1, name-placed.lies)
+    pub dimension_name_lies : text.Ok (record {}) x.name × Lies (text.enc x.name) s (dimension_for d x).name.start
+    dimension_name_lies = (o.0.1.1.1, name_placed.lies)
 
-    pub first-value-there : first_value_at s d ≡ first_value_for d x
-    first-value-there = ap (◌+ 1) name-placed.ends
+    pub first_value_there : first_value_at s d ≡ first_value_for d x
+    first_value_there = ap (◌+ 1) name_placed.ends
 
-    pub values-there : (end : ℕ) → d + length (dimension_format.enc x) ≤ end
+    pub values_there : (end : ℕ) → d + length (dimension_format.enc x) ≤ end
         → (values_at s d ≡ length x.values) × Stand value_format s end (first_value_at s d) x.values
-    values-there end h =
-        let p = name-placed.past in
+    values_there end h =
+        let p = name_placed.past in
         let n = length-append ((sized8 text).enc (record {}, x.name)) told in
         let t = number scale_head (x.r, (x.scale, record {})) * 2 ^ 4 + length x.values in
         let m = length-append (bytes_of 1 t) (encs value_format.enc x.values) in
@@ -144,47 +144,47 @@ module _ (s : List ℕ) (z : Bytes s) (at end : ℕ) (b : RrtFields) (o : rrt_fo
   abbrev own : List ℕ
   own = (sized10 (descriptors no_tag)).enc ((b.r, record {}), b.descs)
 
-  region-placed : Placed s at b.name (listed ++ own)
-  region-placed = placed s z at b.name (listed ++ own) o.0 l
+  region_placed : Placed s at b.name (listed ++ own)
+  region_placed = placed s z at b.name (listed ++ own) o.0 l
 
-  listed-length : text_end s at + length listed ≡ dimensions_end (first_at s at) b
-  listed-length =
+  listed_length : text_end s at + length listed ≡ dimensions_end (first_at s at) b
+  listed_length =
       let n = length-append (bytes_of 1 (0 + length b.dimensions)) (encs dimension_format.enc b.dimensions) in
       let k = bytes_length 1 (0 + length b.dimensions) in
       omega arith
 
-  listed-and-own : Lies listed s (text_end s at) × Lies own s (dimensions_end (first_at s at) b)
-  listed-and-own =
-      let i = lies_split listed own s (text_end s at) region-placed.behind in
-      (i.0, lies_at own s _ _ listed-length i.1)
+  listed_and_own : Lies listed s (text_end s at) × Lies own s (dimensions_end (first_at s at) b)
+  listed_and_own =
+      let i = lies_split listed own s (text_end s at) region_placed.behind in
+      (i.0, lies_at own s _ _ listed_length i.1)
 
-  pub first-there : first_at s at ≡ first_for at b
-  first-there = ap (◌+ 1) region-placed.ends
+  pub first_there : first_at s at ≡ first_for at b
+  first_there = ap (◌+ 1) region_placed.ends
 
-  pub name-lies : text.Ok (record {}) b.name × Lies (text.enc b.name) s (part_for at b.name).start
-  name-lies = (o.0.1.1.1, region-placed.lies)
+  pub name_lies : text.Ok (record {}) b.name × Lies (text.enc b.name) s (part_for at b.name).start
+  name_lies = (o.0.1.1.1, region_placed.lies)
 
-  pub entries-there : (count_at s at ≡ length b.dimensions) × Stand dimension_format s end (first_at s at) b.dimensions
-  entries-there =
-      let t = notNone-there s z (text_end s at) dimension_format b.dimensions o.1.0 listed-and-own.0 in
-      let p = region-placed.past in
+  pub entries_there : (count_at s at ≡ length b.dimensions) × Stand dimension_format s end (first_at s at) b.dimensions
+  entries_there =
+      let t = not_none_there s z (text_end s at) dimension_format b.dimensions o.1.0 listed_and_own.0 in
+      let p = region_placed.past in
       let n = length-append ((sized8 text).enc (record {}, b.name)) (listed ++ own) in
       let m = length-append listed own in
-      let k = listed-length in
+      let k = listed_length in
       (t.0, record { good = o.1.0.1.1.1.1; lies = t.1; inside = omega arith })
 
-  own-placed : (list_at 1024 s (dimensions_end (first_at s at) b) ≡ record { start = dimensions_end (first_at s at) b + 2; length = length ((descriptors no_tag).enc b.descs) })
+  own_placed : (list_at 1024 s (dimensions_end (first_at s at) b) ≡ record { start = dimensions_end (first_at s at) b + 2; length = length ((descriptors no_tag).enc b.descs) })
       × Lies ((descriptors no_tag).enc b.descs) s (dimensions_end (first_at s at) b + 2)
-  own-placed = list10-there no_tag s (dimensions_end (first_at s at) b) z b.r b.descs o.1.1 listed-and-own.1
+  own_placed = list10_there no_tag s (dimensions_end (first_at s at) b) z b.r b.descs o.1.1 listed_and_own.1
 
-  pub own-lie : (extension : ℕ) → Lies ((descriptors no_tag).enc b.descs) s (fields_for extension at b).descriptors.start
-  own-lie extension = lies_at _ s _ _ (ap (λ a. dimensions_end a b + 2) first-there) own-placed.1
+  pub own_lie : (extension : ℕ) → Lies ((descriptors no_tag).enc b.descs) s (fields_for extension at b).descriptors.start
+  own_lie extension = lies_at _ s _ _ (ap (λ a. dimensions_end a b + 2) first_there) own_placed.1
 
-  pub fields-there : (extension : ℕ) → fields_at s extension at (dimensions_end (first_at s at) b) ≡ fields_for extension at b
-  fields-there extension =
-      let f = first-there in
-      let n = region-placed.part in
-      let c = entries-there.0 in
-      let d = own-placed.0
+  pub fields_there : (extension : ℕ) → fields_at s extension at (dimensions_end (first_at s at) b) ≡ fields_for extension at b
+  fields_there extension =
+      let f = first_there in
+      let n = region_placed.part in
+      let c = entries_there.0 in
+      let d = own_placed.0
       ∙ (λ i. record { start = dimensions_end (f i) b + 2; length = length ((descriptors no_tag).enc b.descs) }) in
       λ i. record { extension = extension; region = extension % 256; name = n i; dimensions = c i; descriptors = d i }

@@ -17,7 +17,7 @@ use Rattle.format.specs.Formats.{one_or_more}
 use Rattle.format.proofs.FieldLaws.{fields_end, merge}
 use Rattle.strings.specs.Strings.{sized_text}
 use Rattle.strings.specs.Places.{text_end}
-use Rattle.strings.proofs.TextLaws.{text-end, text-inside}
+use Rattle.strings.proofs.TextLaws.{text_end_lem, text_inside}
 use Rattle.descriptor.specs.Descriptors.{no_tag}
 use Rattle.descriptor.specs.Places.{list10}
 use Rattle.rrt.specs.Walked.{value, dimension, dimensions, dimensions_and_list, rrt}
@@ -32,9 +32,9 @@ module _ (f : Format One) (g : ℕ → ℕ) (s : List ℕ) (end at b : ℕ) wher
       by true e = never x b e
       by false e = e
 
-  some-stands : then (fields_to (8 ∷ []) at end) (λ c. (one_or_more 1 f).walk (g (byte_at s (c - 1))) s end c) ≡ To b
+  some_stands : then (fields_to (8 ∷ []) at end) (λ c. (one_or_more 1 f).walk (g (byte_at s (c - 1))) s end c) ≡ To b
       → (many (walks f s end) (g (byte_at s at)) (at + 1) ≡ To b) × (at + 1 ≤ end)
-  some-stands w =
+  some_stands w =
       let p = then_inv _ _ b w in
       let t = fields_end 8 [] 1 refl at end p.0 p.1.0 in
       let i : at + 1 - 1 ≡ at = omega arith in
@@ -42,21 +42,21 @@ module _ (f : Format One) (g : ℕ → ℕ) (s : List ℕ) (end at b : ℕ) wher
 
 -- ---- a value: its two texts
 module _ (s : List ℕ) (end a b : ℕ) (w : walks value s end a ≡ To b) where
-  pub value-parts : (walks sized_text s end a ≡ To (text_end s a)) × (walks sized_text s end (text_end s a) ≡ To b)
+  pub value_parts : (walks sized_text s end a ≡ To (text_end s a)) × (walks sized_text s end (text_end s a) ≡ To b)
   unfolding value sized_text
-  value-parts =
+  value_parts =
       let p = then_inv _ _ b w in
-      let e = text-end s end a p.0 p.1.0 in
+      let e = text_end_lem s end a p.0 p.1.0 in
       (p.1.0 ∙ ap To e, ap (walks sized_text s end) (sym e) ∙ p.1.1)
 
-  pub value-forward : (a < b) × (b ≤ end)
-  value-forward =
-      let t = text-inside s end a (text_end s a) value-parts.0 in
-      let u = text-inside s end (text_end s a) b value-parts.1 in
+  pub value_forward : (a < b) × (b ≤ end)
+  value_forward =
+      let t = text_inside s end a (text_end s a) value_parts.0 in
+      let u = text_inside s end (text_end s a) b value_parts.1 in
       (omega (arith, t, u), u.1)
 
-  pub value-ends : b ≡ value_end s a
-  value-ends = text-end s end (text_end s a) b value-parts.1
+  pub value_ends : b ≡ value_end s a
+  value_ends = text_end_lem s end (text_end s a) b value_parts.1
 
 -- and several, one after the other
 values_end_lem : (s : List ℕ) (end n a b : ℕ) → many (walks value s end) n a ≡ To b → b ≡ values_end s n a
@@ -64,7 +64,7 @@ unfolding many values_end
 values_end_lem s end zero a b w = to_is a b w
 values_end_lem s end (suc n) a b w =
     let p = then_inv _ _ b w in
-    values_end_lem s end n p.0 b p.1.1 ∙ ap (values_end s n) (value-ends s end a p.0 p.1.0)
+    values_end_lem s end n p.0 b p.1.1 ∙ ap (values_end s n) (value_ends s end a p.0 p.1.0)
 
 -- ---- a dimension: its name, and its values
 module _ (s : List ℕ) (end d b : ℕ) (w : walks dimension s end d ≡ To b) where
@@ -75,40 +75,40 @@ module _ (s : List ℕ) (end d b : ℕ) (w : walks dimension s end d ≡ To b) w
       let p = then_inv _ _ b w in
       (p.0, (p.1.0, ap (λ v. then v (λ x. (one_or_more 1 value).walk (byte_at s (x - 1) % 16) s end x)) (sym (merge 4 4 [] p.0 end (omega arith))) ∙ p.1.1))
 
-  pub name-walked : walks sized_text s end d ≡ To (text_end s d)
-  name-walked = parts.1.0 ∙ ap To (text-end s end d parts.0 parts.1.0)
+  pub name_walked : walks sized_text s end d ≡ To (text_end s d)
+  name_walked = parts.1.0 ∙ ap To (text_end_lem s end d parts.0 parts.1.0)
 
-  pub values-walked : (many (walks value s end) (values_at s d) (first_value_at s d) ≡ To b) × (first_value_at s d ≤ end)
-  values-walked =
-      let e = text-end s end d parts.0 parts.1.0 in
-      some-stands value (λ n. n % 16) s end (text_end s d) b (rw e at parts.1.1)
+  pub values_walked : (many (walks value s end) (values_at s d) (first_value_at s d) ≡ To b) × (first_value_at s d ≤ end)
+  values_walked =
+      let e = text_end_lem s end d parts.0 parts.1.0 in
+      some_stands value (λ n. n % 16) s end (text_end s d) b (rw e at parts.1.1)
 
-  pub dimension-forward : (d ≤ b) × (b ≤ end)
-  dimension-forward =
-      let t = text-inside s end d (text_end s d) name-walked in
+  pub dimension_forward : (d ≤ b) × (b ≤ end)
+  dimension_forward =
+      let t = text_inside s end d (text_end s d) name_walked in
       (dimension.law (record {})).within s end d b (omega (arith, t)) w
 
-  pub dimension-ends : b ≡ dimension_end s d
+  pub dimension_ends : b ≡ dimension_end s d
   unfolding dimension_end
-  dimension-ends = values_end_lem s end (values_at s d) (first_value_at s d) b values-walked.0
+  dimension_ends = values_end_lem s end (values_at s d) (first_value_at s d) b values_walked.0
 
 -- ---- the table: the region name, the dimensions, and the table's own descriptors
 module _ (s : List ℕ) (end at e : ℕ) (w : walks_all rrt s end at ≡ To e) where
-  pub region-walked : walks sized_text s end at ≡ To (text_end s at)
+  pub region_walked : walks sized_text s end at ≡ To (text_end s at)
   unfolding rrt
-  region-walked =
+  region_walked =
       let p = then_inv _ _ e w in
       let q = then_inv _ _ p.0 p.1.0 in
-      q.1.0 ∙ ap To (text-end s end at q.0 q.1.0)
+      q.1.0 ∙ ap To (text_end_lem s end at q.0 q.1.0)
 
-  pub body-dimensions : (b : ℕ) × ((many (walks dimension s end) (count_at s at) (first_at s at) ≡ To b)
+  pub body_dimensions : (b : ℕ) × ((many (walks dimension s end) (count_at s at) (first_at s at) ≡ To b)
       × ((walks (list10 no_tag) s end b ≡ To e) × (first_at s at ≤ end)))
   unfolding rrt dimensions_and_list dimensions
-  body-dimensions =
+  body_dimensions =
       let p = then_inv _ _ e w in
       let q = then_inv _ _ p.0 p.1.0 in
       let d = ended end p.0 e p.1.1 in
-      let t = text-end s end at q.0 q.1.0 in
+      let t = text_end_lem s end at q.0 q.1.0 in
       let r = then_inv _ _ p.0 (ap (walks dimensions_and_list s end) (sym t) ∙ q.1.1) in
-      let m = some-stands dimension (λ n. n) s end (text_end s at) r.0 r.1.0 in
+      let m = some_stands dimension (λ n. n) s end (text_end s at) r.0 r.1.0 in
       (r.0, (m.0, (r.1.1 ∙ ap To (d.0 ∙ sym d.1), m.1)))

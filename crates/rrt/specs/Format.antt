@@ -2,7 +2,7 @@
 use Rattle.std.specs.Prelude.{ℕ, refl, List, [], ◌∷◌}
 use Rattle.format.specs.Formats.{Format, Filling, seq, exact, under, under_all}
 use Rattle.format.specs.Values.{One, Field, bits, reserved}
-use Rattle.format.specs.Told.{sized8, sized10, fewNotNone, not_none}
+use Rattle.format.specs.Told.{sized8, sized10, few_not_none, not_none}
 use Rattle.strings.specs.Strings.{text}
 use Rattle.descriptor.specs.Descriptors.{descriptors, no_tag}
 
@@ -29,7 +29,7 @@ pub record DimensionFields : Type 0 where
 
 abbrev pub dimension_format : Format One
 dimension_format =
-    under (seq (sized8 text) (fewNotNone scale_head 4 refl value_format)) {Y = DimensionFields}
+    under (seq (sized8 text) (few_not_none scale_head 4 refl value_format)) {Y = DimensionFields}
     (λ d. ((record {}, d.name), ((d.r, (d.scale, record {})), d.values)))
     (λ x. record { name = x.0.1; r = x.1.0.0; scale = x.1.0.1.0; values = x.1.1 })
     (λ x. refl) (λ y. refl)

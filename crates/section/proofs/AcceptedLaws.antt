@@ -11,13 +11,13 @@ use Rattle.checksum.specs.Register.{sealed}
 use Rattle.checksum.proofs.Sealing.{resealed}
 use Rattle.refusal.specs.Outcomes.{resulted}
 use Rattle.kind.specs.declared.Kind.{Kind}
-use Rattle.kind.specs.Kinds.{limits_of, table_id_of, only_of}
+use Rattle.kind.specs.Kinds.{limitsOf, tableIdOf, onlyOf}
 use Rattle.format.specs.Repeats.{Bytes}
 use Rattle.format.specs.Laws.OfBytes.{part_length}
 use Rattle.format.specs.Laws.OfValues.{vals_fit, vals_number, bytes_part}
 use Rattle.format.specs.Values.{number, bytes_of}
 use Rattle.format.specs.Heads.{vals_at}
-use Rattle.format.proofs.FormatLaws.{between, accepted-all}
+use Rattle.format.proofs.FormatLaws.{between, accepted_all}
 use Rattle.section.specs.declared.header.Header.{Header}
 use Rattle.section.specs.Bodies.{body_format}
 use Rattle.section.specs.Headers.{table_id, syntax_indicator, private_indicator}
@@ -37,22 +37,22 @@ length_is b l n v e f g = omega arith
 both_equal : {a b c d : ℕ} → a ≡ c → b ≡ d → a ≤ b → c ≤ d
 both_equal e f h = omega arith
 
-module _ (k : Kind) (s : List ℕ) (z : Bytes s) (h : Header) (q : section_by (only_of k) s ≡ resulted h) where
-  passed : (table_id s ≡ table_id_of k) × Passed k s h
-  passed = header_passed k s h (section_header (only_of k) s h q)
+module _ (k : Kind) (s : List ℕ) (z : Bytes s) (h : Header) (q : section_by (onlyOf k) s ≡ resulted h) where
+  passed : (table_id s ≡ tableIdOf k) × Passed k s h
+  passed = header_passed k s h (section_header (onlyOf k) s h q)
 
   room : 13 ≤ length s
   room = let p = passed.1 in omega (arith, (known k).smallest, p.smallest, p.size)
 
   -- the body by its record
-  body-walk : (body_format k).walk (record {}) s (length s - 4) 9 ≡ To (length s - 4)
-  body-walk =
+  body_walk_lem : (body_format k).walk (record {}) s (length s - 4) 9 ≡ To (length s - 4)
+  body_walk_lem =
       let w = (section_sound k s h q).1 in
-      let v = sym (ap (λ b. (body_format k).walk (record {}) s (length s - 4) b) (known k).body) ∙ sym (same_walk k s (length s - 4) (limits_of k).body) ∙ w.1 in
+      let v = sym (ap (λ b. (body_format k).walk (record {}) s (length s - 4) b) (known k).body) ∙ sym (same_walk k s (length s - 4) (limitsOf k).body) ∙ w.1 in
       v ∙ ap To (((body_format k).law (record {})).whole s (length s - 4) 9 w.0 v)
 
-  body-value : (x : (body_format k).Val) × ((body_format k).Ok (record {}) x × (between s 9 (length s - 4) ≡ (body_format k).enc x))
-  body-value = let r = room in (accepted-all s (length s - 4) 9 (omega arith) (omega arith) z (body_format k) (record {})).0 body-walk
+  body_value : (x : (body_format k).Val) × ((body_format k).Ok (record {}) x × (between s 9 (length s - 4) ≡ (body_format k).enc x))
+  body_value = let r = room in (accepted_all s (length s - 4) 9 (omega arith) (omega arith) z (body_format k) (record {})).0 body_walk_lem
 
   abbrev header : HeaderFields
   header = let v = vals_at header_head s 0 0 in record {
@@ -66,36 +66,36 @@ module _ (k : Kind) (s : List ℕ) (z : Bytes s) (h : Header) (q : section_by (o
   }
 
   abbrev decode : Section k
-  decode = record { header = header; body = body-value.0 }
+  decode = record { header = header; body = body_value.0 }
 
-  body-size : length ((body_format k).enc body-value.0) + 13 ≡ length s
-  body-size =
+  body_size : length ((body_format k).enc body_value.0) + 13 ≡ length s
+  body_size =
       let r = room in
       let a = part_length s (length s - 4 - 9) 9 (omega arith) in
-      omega (arith, ap length body-value.1.1)
+      omega (arith, ap length body_value.1.1)
 
-  length-same : length_with (length (body_bytes decode)) ≡ (vals_at header_head s 0 0).1.1.1.1.0
-  length-same = length_is _ _ _ _ body-size passed.1.size (header_bits s z).size
+  length_same : length_with (length (body_bytes decode)) ≡ (vals_at header_head s 0 0).1.1.1.1.0
+  length_same = length_is _ _ _ _ body_size passed.1.size (header_bits s z).size
 
   -- its head is that of the bytes
-  head-same : head_for k header (length (body_bytes decode)) ≡ vals_at header_head s 0 0
-  head-same =
+  head_same : head_for k header (length (body_bytes decode)) ≡ vals_at header_head s 0 0
+  head_same =
       let a = header_bits s z in
       let f = vals_fit header_head s 0 0 in
       let p = passed.1 in
-      let e0 : table_id_of k ≡ (vals_at header_head s 0 0).0 = sym passed.0 ∙ a.id in
+      let e0 : tableIdOf k ≡ (vals_at header_head s 0 0).0 = sym passed.0 ∙ a.id in
       let e1 = bit_one (syntax_indicator s) _ p.syntax_one a.syntax f.1.0 in
       let e2 = bit_one (private_indicator s) _ p.private_one a.private f.1.1.0 in
-      let e3 = length-same in
+      let e3 = length_same in
       let e4 : 0 ≡ (vals_at header_head s 0 0).1.1.1.1.1.1.1.1.1.1.1.0 = sym p.byte_zero ∙ (known k).zero_byte s ∙ a.protocol in
       λ i. (e0 i, (e1 i, (e2 i, (header.r1, (e3 i, (header.extension, (header.r2, (header.version, (header.current, (header.number, (header.last, (e4 i, record {}))))))))))))
 
-  well-formed : WellFormed k decode
-  well-formed =
+  well_formed : WellFormed k decode
+  well_formed =
       let a = header_bits s z in
       let f = vals_fit header_head s 0 0 in
       let p = passed.1 in
-      let e = length-same ∙ sym a.size in
+      let e = length_same ∙ sym a.size in
       record {
         r1 = f.1.1.1.0;
         extension = f.1.1.1.1.1.0;
@@ -106,11 +106,11 @@ module _ (k : Kind) (s : List ℕ) (z : Bytes s) (h : Header) (q : section_by (o
         last = both_equal a.last refl p.last_limit;
         smallest = both_equal refl (sym e) p.smallest;
         largest = both_equal (sym e) refl p.largest;
-        body = body-value.1.0;
+        body = body_value.1.0;
       }
 
-  header-same : h ≡ header_of decode
-  header-same =
+  header_same : h ≡ header_of decode
+  header_same =
       let a = header_bits s z in
       passed.1.fields
       ∙ (λ i. record { kind = k; extension = a.extension i; version = a.version i; current = a.current i; number = a.number i; last = a.last i })
@@ -118,20 +118,20 @@ module _ (k : Kind) (s : List ℕ) (z : Bytes s) (h : Header) (q : section_by (o
   head_bytes : bytes_of 9 (number header_head (head_for k header (length (body_bytes decode)))) ≡ take 9 s
   head_bytes =
       let r = room in
-      ap (λ v. bytes_of 9 (number header_head v)) head-same ∙ ap (bytes_of 9) (vals_number header_head s 0) ∙ bytes_part 9 s 0 z (omega arith)
+      ap (λ v. bytes_of 9 (number header_head v)) head_same ∙ ap (bytes_of 9) (vals_number header_head s 0) ∙ bytes_part 9 s 0 z (omega arith)
 
   bytes_same : s ≡ encode decode
   bytes_same =
       let r = room in
-      let b = body-value.1.1 in
+      let b = body_value.1.1 in
       let n : 9 + (length s - 4 - 9) ≡ length s - 4 = omega arith in
       let t : take (length s - 4) s ≡ take 9 s ++ between s 9 (length s - 4) = sym (ap (λ n. take n s) n) ∙ take-add 9 (length s - 4 - 9) s in
       sym (resealed s (length s - 4) z (omega arith) passed.1.register_zero) ∙ ap sealed (t ∙ (λ i. sym head_bytes i ++ b i))
 
 -- what is accepted, of one kind
 pub exactly : (k : Kind) (s : List ℕ) → Bytes s → (h : Header)
-    → (section_by (only_of k) s ≡ resulted h) ↔ ((y : Section k) × (WellFormed k y × ((s ≡ encode y) × (h ≡ header_of y))))
+    → (section_by (onlyOf k) s ≡ resulted h) ↔ ((y : Section k) × (WellFormed k y × ((s ≡ encode y) × (h ≡ header_of y))))
 exactly k s z h = (
-  (λ q. (decode k s z h q, (well-formed k s z h q, (bytes_same k s z h q, header-same k s z h q)))),
-  (λ u. ap (section_by (only_of k)) u.1.1.0 ∙ accepts k u.0 u.1.0 ∙ ap resulted (sym u.1.1.1)),
+  (λ q. (decode k s z h q, (well_formed k s z h q, (bytes_same k s z h q, header_same k s z h q)))),
+  (λ u. ap (section_by (onlyOf k)) u.1.1.0 ∙ accepts k u.0 u.1.0 ∙ ap resulted (sym u.1.1.1)),
 )

@@ -12,14 +12,14 @@ use Rattle.checksum.proofs.Sealing.{sealed_sound}
 use Rattle.refusal.specs.Outcomes.{Outcome, resulted, after}
 use Rattle.bytes_at.specs.Walks.{standing}
 use Rattle.kind.specs.declared.Kind.{Kind}
-use Rattle.kind.specs.Kinds.{limits_of, only_of}
+use Rattle.kind.specs.Kinds.{limitsOf, onlyOf}
 use Rattle.format.specs.Lawful.{Lies}
 use Rattle.format.specs.Repeats.{Bytes}
 use Rattle.format.specs.Laws.OfBytes.{bytes_append, same_front}
 use Rattle.format.specs.Laws.OfValues.{number_lt, bytes_bytes, bytes_length}
 use Rattle.format.specs.Values.{Vals, Fit, number, bytes_of}
 use Rattle.format.specs.Heads.{vals_at}
-use Rattle.format.specs.Laws.OfNamed.{vals-there}
+use Rattle.format.specs.Laws.OfNamed.{vals_there}
 use Rattle.section.specs.declared.header.Header.{Header}
 use Rattle.section.specs.Bodies.{body_format}
 use Rattle.section.specs.Headers.{header_in, header_by}
@@ -36,9 +36,9 @@ module _ (k : Kind) (h : HeaderFields) (body : List ℕ) where
   unfolding sealed
   encoded = append_assoc (bytes_of 9 (number header_head (head_for k h (length body)))) body (four_bytes (register (unsealed k h body)))
 
-  pub encoded-size : length (encode_with k h body) ≡ length body + 13
+  pub encoded_size : length (encode_with k h body) ≡ length body + 13
   unfolding four_bytes
-  encoded-size =
+  encoded_size =
       let x = number header_head (head_for k h (length body)) in
       let w = four_bytes (register (unsealed k h body)) in
       ap length encoded ∙ omega (arith, length-append (bytes_of 9 x) (body ++ w), length-append body w, bytes_length 9 x)
@@ -61,25 +61,25 @@ module _ (k : Kind) (y : Section k) (o : WellFormed k y) where
   bytes = encoded k y.header (body_bytes y)
 
   pub size : length (encode y) ≡ length (body_bytes y) + 13
-  size = encoded-size k y.header (body_bytes y)
+  size = encoded_size k y.header (body_bytes y)
 
-  head-lies : Lies (bytes_of 9 (number header_head (head_of k y))) (encode y) 0
-  head-lies = ap (take (length (bytes_of 9 (number header_head (head_of k y))))) bytes ∙ take_at (bytes_of 9 (number header_head (head_of k y))) _ _ refl
+  head_lies : Lies (bytes_of 9 (number header_head (head_of k y))) (encode y) 0
+  head_lies = ap (take (length (bytes_of 9 (number header_head (head_of k y))))) bytes ∙ take_at (bytes_of 9 (number header_head (head_of k y))) _ _ refl
 
   -- the body, where the table of kinds has it begin
-  pub body-lies : Lies (body_bytes y) (encode y) (limits_of k).body
-  body-lies =
+  pub body_lies : Lies (body_bytes y) (encode y) (limitsOf k).body
+  body_lies =
       ap (λ a. take (length (body_bytes y)) (drop a (encode y))) (known k).body
       ∙ ap (λ s. take (length (body_bytes y)) (drop 9 s)) bytes
       ∙ ap (take (length (body_bytes y))) (drop_at (bytes_of 9 (number header_head (head_of k y))) _ 9 (bytes_length 9 _))
       ∙ take_at (body_bytes y) _ _ refl
 
   -- and it takes all up to the checksum
-  pub body-ends : length (encode y) - 4 ≡ (limits_of k).body + length (body_bytes y)
-  body-ends = omega (arith, size, (known k).body)
+  pub body_ends : length (encode y) - 4 ≡ (limitsOf k).body + length (body_bytes y)
+  body_ends = omega (arith, size, (known k).body)
 
   pub vals : vals_at header_head (encode y) 0 0 ≡ head_of k y
-  vals = vals-there header_head 9 refl (encode y) 0 (head_of k y) fits head-lies
+  vals = vals_there header_head 9 refl (encode y) 0 (head_of k y) fits head_lies
 
 -- ---- its numbers are bytes
 four_bytes_lem : (w : ℕ) → Bytes (four_bytes w)
@@ -97,8 +97,8 @@ encode_bytes k y o =
     subst (λ l. Bytes l) (sym (bytes k y o)) (bytes_append (bytes_of 9 (number header_head (head_of k y))) _ h b)
 
 -- ---- it is accepted
-stands : (k : Kind) (s : List ℕ) (h : Header) (e : ℕ) → header_by (only_of k) s ≡ resulted h → body_walk h.kind s ≡ To e
-    → section_by (only_of k) s ≡ resulted h
+stands : (k : Kind) (s : List ℕ) (h : Header) (e : ℕ) → header_by (onlyOf k) s ≡ resulted h → body_walk h.kind s ≡ To e
+    → section_by (onlyOf k) s ≡ resulted h
 unfolding section_by body_test after standing
 stands k s h e p q = ap (λ (o : Outcome Header). after o (λ g. body_test g s)) p ∙ ap (λ (w : Walk). after (standing w) (λ x. resulted h)) q
 
@@ -133,23 +133,23 @@ module _ (k : Kind) (y : Section k) (o : WellFormed k y) where
         fields = sym header_is;
       }
 
-  walk-stands : body_walk k (encode y) ≡ To (length (encode y) - 4)
-  walk-stands =
-      same_walk k (encode y) (length (encode y) - 4) (limits_of k).body
-      ∙ ((body_format k).law (record {})).sound (encode y) (length (encode y) - 4) (limits_of k).body y.body o.body (body-lies k y o) (body-ends k y o)
+  walk_stands : body_walk k (encode y) ≡ To (length (encode y) - 4)
+  walk_stands =
+      same_walk k (encode y) (length (encode y) - 4) (limitsOf k).body
+      ∙ ((body_format k).law (record {})).sound (encode y) (length (encode y) - 4) (limitsOf k).body y.body o.body (body_lies k y o) (body_ends k y o)
 
-  pub accepts : section_by (only_of k) (encode y) ≡ resulted (header_of y)
+  pub accepts : section_by (onlyOf k) (encode y) ≡ resulted (header_of y)
   accepts =
       let h = header_passes k (encode y) (header_of y) (omega (arith, size k y o)) are.id passed in
-      stands k (encode y) (header_of y) _ h walk-stands
+      stands k (encode y) (header_of y) _ h walk_stands
 
 -- ---- of one section only
 module _ (k : Kind) (x y : Section k) (o : WellFormed k x) (r : WellFormed k y) (e : encode x ≡ encode y) where
-  vals-once : head_of k x ≡ head_of k y
-  vals-once = sym (vals k x o) ∙ ap (λ s. vals_at header_head s 0 0) e ∙ vals k y r
+  vals_once : head_of k x ≡ head_of k y
+  vals_once = sym (vals k x o) ∙ ap (λ s. vals_at header_head s 0 0) e ∙ vals k y r
 
-  body-once : x.body ≡ y.body
-  body-once =
+  body_once : x.body ≡ y.body
+  body_once =
       let hx = number header_head (head_of k x) in
       let hy = number header_head (head_of k y) in
       let fx = four_bytes (register (unsealed k x.header (body_bytes x))) in
@@ -164,13 +164,13 @@ module _ (k : Kind) (x y : Section k) (o : WellFormed k x) (r : WellFormed k y) 
   pub once : x ≡ y
   once = λ i. record {
     header = record {
-      r1 = (vals-once i).1.1.1.0;
-      extension = (vals-once i).1.1.1.1.1.0;
-      r2 = (vals-once i).1.1.1.1.1.1.0;
-      version = (vals-once i).1.1.1.1.1.1.1.0;
-      current = (vals-once i).1.1.1.1.1.1.1.1.0;
-      number = (vals-once i).1.1.1.1.1.1.1.1.1.0;
-      last = (vals-once i).1.1.1.1.1.1.1.1.1.1.0;
+      r1 = (vals_once i).1.1.1.0;
+      extension = (vals_once i).1.1.1.1.1.0;
+      r2 = (vals_once i).1.1.1.1.1.1.0;
+      version = (vals_once i).1.1.1.1.1.1.1.0;
+      current = (vals_once i).1.1.1.1.1.1.1.1.0;
+      number = (vals_once i).1.1.1.1.1.1.1.1.1.0;
+      last = (vals_once i).1.1.1.1.1.1.1.1.1.1.0;
     };
-    body = body-once i;
+    body = body_once i;
   }

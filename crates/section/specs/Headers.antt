@@ -8,7 +8,7 @@ use Rattle.kind.specs.declared.Kind.{Kind}
 use Rattle.kind.specs.declared.Limits.{Limits}
 use Rattle.kind.specs.declared.Found.{Found}
 use Rattle.kind.specs.declared.Found.TheVariants.{Is, Nothing}
-use Rattle.kind.specs.Kinds.{limits_of}
+use Rattle.kind.specs.Kinds.{limitsOf}
 use Rattle.section.specs.declared.header.Header.{Header}
 
 -- ---- the fields, by the names of SCOPE 1.3: the same as those of `headerHead` in Encoding.antt (law `header-bits`), read by their bytes
@@ -75,7 +75,7 @@ length_tests l k s =
 -- 2
 unfoldable pub of_kind : List ℕ → Found → Outcome Header
 of_kind s Nothing = refused 2
-of_kind s (Is k) = length_tests (limits_of k) k s
+of_kind s (Is k) = length_tests (limitsOf k) k s
 
 -- 1 to 8 of a call that reads the kinds that `finds` finds by their table_id: all five (kindOf), or one (onlyOf k)
 unfoldable pub header_by : (ℕ → Found) → List ℕ → Outcome Header

@@ -13,7 +13,7 @@ use Rattle.strings.specs.Strings.{StringFields, structure, text, strings_of, as_
 use Rattle.strings.specs.Places.{text_at}
 use Rattle.descriptor.specs.Descriptors.{descriptors_of, content_advisory}
 use Rattle.rating.specs.Values.{text_by, text_place}
-use Rattle.rating.proofs.TextLaws.{text-lies, text-none}
+use Rattle.rating.proofs.TextLaws.{text_lies, text_none}
 use Rattle.rrt.specs.declared.table.Table.{Table as RrtTable}
 use Rattle.rrt.specs.Format.{ValueFields, value_format, DimensionFields, dimension_format, RrtFields, rrt_format}
 use Rattle.rrt.specs.Fields.{dimension_at, texts_at}
@@ -30,7 +30,7 @@ use Rattle.ett.specs.Fields.{fields_at}
 use Rattle.ett.proofs.FieldLaws as etts
 use Rattle.section_text.specs.Fields.{title_field}
 use Rattle.section_laws.specs.Told.{strings_in}
-use Rattle.section_laws.proofs.QuestionLaws.{place-told}
+use Rattle.section_laws.proofs.QuestionLaws.{place_told_lem}
 
 -- ---- what is asked of a text's bytes, where that is said of the text: the text of a region, by where it is found
 module _ {A : Type 0} (ask : List ℕ → Outcome A) (says : text.Val → Outcome A)
@@ -40,26 +40,26 @@ module _ {A : Type 0} (ask : List ℕ → Outcome A) (says : text.Val → Outcom
       → after (or_none q) (λ p. ask (bytes_in s p)) ≡ after (or_none (text_by region (descriptors_of content_advisory e.descs))) says
   unfolding after
   found none k =
-      let d = eits.descriptors-lie s z a e o l in
-      rw (text-none s z region (descriptors_place a e).start e.descs d.0 d.1 k) refl
+      let d = eits.descriptors_lie s z a e o l in
+      rw (text_none s z region (descriptors_place a e).start e.descs d.0 d.1 k) refl
   found (some p) k =
-      let d = eits.descriptors-lie s z a e o l in
-      let u = text-lies s z region (descriptors_place a e).start e.descs d.0 d.1 p k in
+      let d = eits.descriptors_lie s z a e o l in
+      let u = text_lies s z region (descriptors_place a e).start e.descs d.0 d.1 p k in
       let n = ap (λ n. ask (bytes_in s (record { start = p.start; length = n }))) u.1.1.1.1 in
       rw u.1.0 (n ∙ ap ask u.1.1.1.0 ∙ same u.0 u.1.1.0)
 
-  pub region-text : after (or_none (text_place region (descriptors_place a e).start (descriptors_of content_advisory e.descs))) (λ p. ask (bytes_in s p))
+  pub region_text_lem : after (or_none (text_place region (descriptors_place a e).start (descriptors_of content_advisory e.descs))) (λ p. ask (bytes_in s p))
       ≡ after (or_none (text_by region (descriptors_of content_advisory e.descs))) says
-  region-text = found _ refl
+  region_text_lem = found _ refl
 
 -- ---- where it is told by the text's strings: of every sort of text
 module _ {A : Type 0} (ask : List ℕ → Outcome A) (tell : List StringFields → Outcome A)
     (same : (t : text.Val) → text.Ok (record {}) t → ask (text.enc t) ≡ tell (strings_of t)) (s : List ℕ) where
   -- the strings of a text that there may be
-  strings-in : (q : Option text.Val) → after (or_none q) (λ t. tell (strings_of t)) ≡ after (strings_in q) tell
+  strings_in_lem : (q : Option text.Val) → after (or_none q) (λ t. tell (strings_of t)) ≡ after (strings_in q) tell
   unfolding after
-  strings-in none = refl
-  strings-in (some t) = refl
+  strings_in_lem none = refl
+  strings_in_lem (some t) = refl
 
   -- a text alone
   lying : (a : ℕ) (t : text.Val) → text.Ok (record {}) t × Lies (text.enc t) s a
@@ -75,40 +75,40 @@ module _ {A : Type 0} (ask : List ℕ → Outcome A) (tell : List StringFields �
   titled a (some (x ∷ xs)) h = lying a (some (x ∷ xs)) h
 
   -- ---- an ETT
-  pub extended-asked : (at end : ℕ) (b : EttFields) → ett_format.Ok (record {}) b → Lies (ett_format.enc b) s at
+  pub extended_asked : (at end : ℕ) (b : EttFields) → ett_format.Ok (record {}) b → Lies (ett_format.enc b) s at
       → end ≡ at + length (ett_format.enc b) → ask (bytes_in s (fields_at s 0 at end).text) ≡ tell (strings_of (as_text b.text))
   unfolding text as_text
-  extended-asked at end b o l whole =
-      ap (λ (g : EttTable). ask (bytes_in s g.text)) (etts.fields-there s at end b o l whole 0)
-      ∙ lying (at + 4) (as_text b.text) (etts.as-text-lies s at end b o l whole)
+  extended_asked at end b o l whole =
+      ap (λ (g : EttTable). ask (bytes_in s g.text)) (etts.fields_there s at end b o l whole 0)
+      ∙ lying (at + 4) (as_text b.text) (etts.as_text_lies s at end b o l whole)
 
   module _ (z : Bytes s) where
     -- ---- an RRT, a dimension and a value
-    pub region-asked : (at end : ℕ) (b : RrtFields) → rrt_format.Ok (record {}) b → Lies (rrt_format.enc b) s at
+    pub region_asked : (at end : ℕ) (b : RrtFields) → rrt_format.Ok (record {}) b → Lies (rrt_format.enc b) s at
         → end ≡ at + length (rrt_format.enc b) → ask (bytes_in s (text_at s at)) ≡ tell (strings_of b.name)
-    region-asked at end b o l whole =
-        ap (λ (g : RrtTable). ask (bytes_in s g.name)) (rrts.fields-there s z at end b o l whole 0)
-        ∙ lying (at + 1) b.name (rrts.name-lies s z at end b o l whole)
+    region_asked at end b o l whole =
+        ap (λ (g : RrtTable). ask (bytes_in s g.name)) (rrts.fields_there s z at end b o l whole 0)
+        ∙ lying (at + 1) b.name (rrts.name_lies s z at end b o l whole)
 
-    pub dimension-asked : (d : ℕ) (x : DimensionFields) → dimension_format.Ok (record {}) x → Lies (dimension_format.enc x) s d
+    pub dimension_asked : (d : ℕ) (x : DimensionFields) → dimension_format.Ok (record {}) x → Lies (dimension_format.enc x) s d
         → ask (bytes_in s (dimension_at s d).name) ≡ tell (strings_of x.name)
-    dimension-asked d x o l =
-        rw (rrts.dimension-there s z d x o l) (lying (dimension_for d x).name.start x.name (rrts.dimension-name-lies s z d x o l))
+    dimension_asked d x o l =
+        rw (rrts.dimension_there s z d x o l) (lying (dimension_for d x).name.start x.name (rrts.dimension_name_lies s z d x o l))
 
     module _ (a : ℕ) (v : ValueFields) (o : value_format.Ok (record {}) v) (l : Lies (value_format.enc v) s a) where
-      pub short-asked : ask (bytes_in s (texts_at s a).short_text) ≡ tell (strings_of v.short)
-      short-asked = rw (rrts.value_there s z a v o l) (lying (texts_for a v).short_text.start v.short (rrts.short-lies s z a v o l))
+      pub short_asked : ask (bytes_in s (texts_at s a).short_text) ≡ tell (strings_of v.short)
+      short_asked = rw (rrts.value_there s z a v o l) (lying (texts_for a v).short_text.start v.short (rrts.short_lies s z a v o l))
 
-      pub long-asked : ask (bytes_in s (texts_at s a).long_text) ≡ tell (strings_of v.long)
-      long-asked = rw (rrts.value_there s z a v o l) (lying (texts_for a v).long_text.start v.long (rrts.long-lies s z a v o l))
+      pub long_asked : ask (bytes_in s (texts_at s a).long_text) ≡ tell (strings_of v.long)
+      long_asked = rw (rrts.value_there s z a v o l) (lying (texts_for a v).long_text.start v.long (rrts.long_lies s z a v o l))
 
     -- ---- an event
     module _ (a : ℕ) (e : EventFields) (o : event_format.Ok (record {}) e) (l : Lies (event_format.enc e) s a) where
-      pub title-asked : ask (bytes_in s (title_field (title_at s a))) ≡ tell (strings_of e.title)
-      title-asked = rw (eits.title-there s z a e o l) (titled (title_place a e).start e.title (eits.title-lies s z a e o l))
+      pub title_asked : ask (bytes_in s (title_field (title_at s a))) ≡ tell (strings_of e.title)
+      title_asked = rw (eits.title_there s z a e o l) (titled (title_place a e).start e.title (eits.title_lies s z a e o l))
 
-      pub advisory-asked : (region : ℕ) → after (or_none (advisory_text_at s a region)) (λ p. ask (bytes_in s p))
+      pub advisory_asked : (region : ℕ) → after (or_none (advisory_text_at s a region)) (λ p. ask (bytes_in s p))
           ≡ after (strings_in (text_by region (descriptors_of content_advisory e.descs))) tell
-      advisory-asked region =
-          ap (λ q. after (or_none q) (λ p. ask (bytes_in s p))) (place-told s z a e o l region)
-          ∙ region-text ask (λ t. tell (strings_of t)) same s z a e o l region ∙ strings-in (text_by region (descriptors_of content_advisory e.descs))
+      advisory_asked region =
+          ap (λ q. after (or_none q) (λ p. ask (bytes_in s p))) (place_told_lem s z a e o l region)
+          ∙ region_text_lem ask (λ t. tell (strings_of t)) same s z a e o l region ∙ strings_in_lem (text_by region (descriptors_of content_advisory e.descs))

@@ -10,7 +10,7 @@ use Rattle.refusal.proofs.OutcomeLaws.{not_both}
 use Rattle.refusal.proofs.TestLaws.{either_way}
 use Rattle.kind.specs.declared.Kind.{Kind}
 use Rattle.kind.specs.declared.Kind.TheVariants.{Mgt, Tvct, Rrt, Eit, Ett}
-use Rattle.kind.specs.Kinds.{only_of}
+use Rattle.kind.specs.Kinds.{onlyOf}
 use Rattle.format.specs.Listed.{nth_of}
 use Rattle.part.specs.declared.Part.{Part}
 use Rattle.descriptor.specs.Descriptors.{descriptors_of, content_advisory}
@@ -34,7 +34,7 @@ use Rattle.rows.specs.Values.{value_rows_of}
 use Rattle.section_text.specs.declared.field.Which.{Which}
 use Rattle.section_text.specs.Fields.{kind_for, field_of}
 use Rattle.section_text.specs.Texts.{text_count, text_heading, text_units}
-use Rattle.section_text.proofs.SoundLaws.{field_nine, no_nine, no-nine-heading}
+use Rattle.section_text.proofs.SoundLaws.{field_nine, no_nine, no_nine_heading}
 use Rattle.titles.specs.Titles as titles
 use Rattle.section_laws.specs.Accepted.{Reads, NoNine}
 use Rattle.section_laws.proofs.TableLaws.{mgt_reads, defined_reads, tvct_reads, channel_reads, rrt_reads, dimension_reads, value_reads, eit_reads_lem, event_reads, ett_reads_lem}
@@ -69,8 +69,8 @@ nth_fair enc told f a (x ∷ xs) (suc i) = nth_fair enc told f (a + length (enc 
 
 -- a reader that tells what is fair
 module _ (k : Kind) {A : Type 0} (reader : List ℕ → Outcome A) (told : Section k → Outcome A) (r : Reads k reader told) (f : (y : Section k) → Fair (told y)) where
-  fair-reader : NoNine k reader
-  fair-reader s z h q e =
+  fair_reader : NoNine k reader
+  fair_reader s z h q e =
       let u = (exactly k s z h).0 q in
       f u.0 (sym (r.tells u.0 u.1.0) ∙ (λ i. reader (sym u.1.1.0 i)) ∙ e)
 
@@ -81,66 +81,66 @@ fair_entry e told f i y = nth_fair _ told f _ _ i
 
 -- ---- the readers
 pub mgt_nine : NoNine Mgt mgts.fields_of
-mgt_nine = fair-reader Mgt mgts.fields_of _ mgt_reads (λ y. result_fair _)
+mgt_nine = fair_reader Mgt mgts.fields_of _ mgt_reads (λ y. result_fair _)
 
 pub defined_nine : (i : ℕ) → NoNine Mgt (λ s. mgts.entry_of s i)
-defined_nine i = fair-reader Mgt _ _ (defined_reads i) (fair_entry Table _ (λ a x. result_fair _) i)
+defined_nine i = fair_reader Mgt _ _ (defined_reads i) (fair_entry Table _ (λ a x. result_fair _) i)
 
 pub tvct_nine : NoNine Tvct tvcts.fields_of
-tvct_nine = fair-reader Tvct tvcts.fields_of _ tvct_reads (λ y. result_fair _)
+tvct_nine = fair_reader Tvct tvcts.fields_of _ tvct_reads (λ y. result_fair _)
 
 pub channel_nine : (i : ℕ) → NoNine Tvct (λ s. tvcts.entry_of s i)
-channel_nine i = fair-reader Tvct _ _ (channel_reads i) (fair_entry Channel _ (λ a x. result_fair _) i)
+channel_nine i = fair_reader Tvct _ _ (channel_reads i) (fair_entry Channel _ (λ a x. result_fair _) i)
 
 pub rrt_nine : NoNine Rrt rrts.fields_of
-rrt_nine = fair-reader Rrt rrts.fields_of _ rrt_reads (λ y. result_fair _)
+rrt_nine = fair_reader Rrt rrts.fields_of _ rrt_reads (λ y. result_fair _)
 
 pub dimension_nine : (i : ℕ) → NoNine Rrt (λ s. rrts.entry_of s i)
-dimension_nine i = fair-reader Rrt _ _ (dimension_reads i) (fair_entry Dimension _ (λ d x. result_fair _) i)
+dimension_nine i = fair_reader Rrt _ _ (dimension_reads i) (fair_entry Dimension _ (λ d x. result_fair _) i)
 
 pub value_nine : (i j : ℕ) → NoNine Rrt (λ s. rrts.value_of s i j)
-value_nine i j = fair-reader Rrt _ _ (value_reads i j) (fair_entry Dimension _ (λ d x. nth_fair _ _ (λ a v. result_fair _) _ _ j) i)
+value_nine i j = fair_reader Rrt _ _ (value_reads i j) (fair_entry Dimension _ (λ d x. nth_fair _ _ (λ a v. result_fair _) _ _ j) i)
 
 pub eit_nine : NoNine Eit eits.fields_of
-eit_nine = fair-reader Eit eits.fields_of _ eit_reads_lem (λ y. result_fair _)
+eit_nine = fair_reader Eit eits.fields_of _ eit_reads_lem (λ y. result_fair _)
 
 pub event_nine : (i : ℕ) → NoNine Eit (λ s. eits.entry_of s i)
-event_nine i = fair-reader Eit _ _ (event_reads i) (fair_entry Event _ (λ a e. result_fair _) i)
+event_nine i = fair_reader Eit _ _ (event_reads i) (fair_entry Event _ (λ a e. result_fair _) i)
 
 pub rating_nine : (i region dimension : ℕ) → NoNine Eit (λ s. eits.rating_of s i region dimension)
-rating_nine i region dimension = fair-reader Eit _ _ (rating_reads i region dimension) (fair_entry Event _ (λ a e. result_fair _) i)
+rating_nine i region dimension = fair_reader Eit _ _ (rating_reads i region dimension) (fair_entry Event _ (λ a e. result_fair _) i)
 
 pub descriptor_nine : (i k : ℕ) → NoNine Eit (λ s. eits.descriptor_of s i k)
-descriptor_nine i k = fair-reader Eit _ _ (descriptor_reads i k)
+descriptor_nine i k = fair_reader Eit _ _ (descriptor_reads i k)
     (fair_entry Event _
     (λ a e. or_fair (descriptor_for content_advisory k (descriptors_place a e).start (descriptors_of content_advisory e.descs))) i)
 
 pub place_nine : (i region : ℕ) → NoNine Eit (λ s. eits.advisory_text_of s i region)
-place_nine i region = fair-reader Eit _ _ (place_reads i region)
+place_nine i region = fair_reader Eit _ _ (place_reads i region)
     (fair_entry Event _ (λ a e. or_fair (text_place region (descriptors_place a e).start (descriptors_of content_advisory e.descs))) i)
 
 pub ett_nine : NoNine Ett etts.fields_of
-ett_nine = fair-reader Ett etts.fields_of _ ett_reads_lem (λ y. result_fair _)
+ett_nine = fair_reader Ett etts.fields_of _ ett_reads_lem (λ y. result_fair _)
 
 room_fair : (w n room : ℕ) → Fair (room_for_rows w n room)
 unfolding room_for_rows
 room_fair w n room = either_way Fair 12 _ (resulted n) (other_fair 12 (λ e. omega arith)) (result_fair n)
 
 pub rows_nine : (r : Row) (room : ℕ) → NoNine (kind_of_entry (entry_for r)) (λ s. rows_of r s room)
-rows_nine r room = fair-reader _ _ _ (row_count_reads r room) (λ y. room_fair (row_width r) _ room)
+rows_nine r room = fair_reader _ _ _ (row_count_reads r room) (λ y. room_fair (row_width r) _ room)
 
 pub value_rows_nine : (room : ℕ) → NoNine Rrt (λ s. value_rows_of s room)
-value_rows_nine room = fair-reader _ _ _ (value_count_reads room) (λ y. room_fair 6 _ room)
+value_rows_nine room = fair_reader _ _ _ (value_count_reads room) (λ y. room_fair 6 _ room)
 
 -- ---- the texts
-units_fair : (s : List ℕ) (w : Which) (h : Header) → section_by (only_of (kind_for w)) s ≡ resulted h → field_of s w ≡ refused 9 → ⊥
+units_fair : (s : List ℕ) (w : Which) (h : Header) → section_by (onlyOf (kind_for w)) s ≡ resulted h → field_of s w ≡ refused 9 → ⊥
 units_fair s w h q e = not_both 9 h (sym (field_nine s w e) ∙ q)
 
 pub units_nine : (w : Which) (k : ℕ) → NoNine (kind_for w) (λ s. text_units s w k)
 units_nine w k s z h q e = units_fair s w h q (no_nine s w k z e)
 
 pub heading_nine : (w : Which) (k : ℕ) → NoNine (kind_for w) (λ s. text_heading s w k)
-heading_nine w k s z h q e = units_fair s w h q (no-nine-heading s w k z e)
+heading_nine w k s z h q e = units_fair s w h q (no_nine_heading s w k z e)
 
 count_first : (o : Outcome Part) (k : Part → ℕ) → after o (λ p. resulted (k p)) ≡ refused 9 → o ≡ refused 9
 unfolding after
@@ -158,4 +158,4 @@ titles_fair c rows units =
     either_way Fair 12 _ _ (other_fair 12 (λ e. omega arith)) (either_way Fair 12 _ (resulted c) (other_fair 12 (λ e. omega arith)) (result_fair c))
 
 pub titles_nine : (rows units : ℕ) → NoNine Eit (λ s. titles.titles_of s rows units)
-titles_nine rows units = fair-reader Eit _ _ (titles_read rows units) (λ y. titles_fair _ rows units)
+titles_nine rows units = fair_reader Eit _ _ (titles_read rows units) (λ y. titles_fair _ rows units)

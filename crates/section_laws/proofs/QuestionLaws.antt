@@ -15,7 +15,7 @@ use Rattle.rating.proofs.ThereLaws as lists
 use Rattle.eit.specs.Format.{EventFields, event_format}
 use Rattle.eit.specs.Questions.{rating_at, event_descriptor, advisory_text_at}
 use Rattle.eit.specs.Values.{descriptors_place}
-use Rattle.eit.proofs.ThereLaws.{descriptors-lie, descriptors-there}
+use Rattle.eit.proofs.ThereLaws.{descriptors_lie, descriptors_there}
 use Rattle.section.specs.Encoding.{encode}
 use Rattle.section.proofs.EncodingLaws.{encode_bytes}
 use Rattle.entry.specs.declared.Entry.TheVariants.{Event}
@@ -31,24 +31,24 @@ module _ (s : List ℕ) (z : Bytes s) (a : ℕ) (e : EventFields) (o : event_for
   unfolding rating_at
   rating_told_lem region dimension =
       let p = descriptors_place a e in
-      let d = descriptors-lie s z a e o l in
-      ap (λ (p : Part). rating_in s region dimension (end_of p) p.start) (descriptors-there s z a e o l)
-      ∙ lists.rating-there s z (end_of p) p.start e.descs d.0 d.1 refl region dimension
+      let d = descriptors_lie s z a e o l in
+      ap (λ (p : Part). rating_in s region dimension (end_of p) p.start) (descriptors_there s z a e o l)
+      ∙ lists.rating_there s z (end_of p) p.start e.descs d.0 d.1 refl region dimension
 
   descriptor_told_lem : (k : ℕ) → event_descriptor s a k ≡ descriptor_for content_advisory k (descriptors_place a e).start (descriptors_of content_advisory e.descs)
   unfolding event_descriptor
   descriptor_told_lem k =
       let p = descriptors_place a e in
-      let d = descriptors-lie s z a e o l in
-      ap (λ (p : Part). descriptor_in s (end_of p) k p.start) (descriptors-there s z a e o l)
-      ∙ lists.descriptor-there s z content_advisory (end_of p) p.start e.descs d.0 d.1 refl k
+      let d = descriptors_lie s z a e o l in
+      ap (λ (p : Part). descriptor_in s (end_of p) k p.start) (descriptors_there s z a e o l)
+      ∙ lists.descriptor_there s z content_advisory (end_of p) p.start e.descs d.0 d.1 refl k
 
-  pub place-told : (region : ℕ) → advisory_text_at s a region ≡ text_place region (descriptors_place a e).start (descriptors_of content_advisory e.descs)
+  pub place_told_lem : (region : ℕ) → advisory_text_at s a region ≡ text_place region (descriptors_place a e).start (descriptors_of content_advisory e.descs)
   unfolding advisory_text_at
-  place-told region =
+  place_told_lem region =
       let p = descriptors_place a e in
-      let d = descriptors-lie s z a e o l in
-      ap (λ (p : Part). text_in s region (end_of p) p.start) (descriptors-there s z a e o l)
+      let d = descriptors_lie s z a e o l in
+      ap (λ (p : Part). text_in s region (end_of p) p.start) (descriptors_there s z a e o l)
       ∙ lists.text_there s z (end_of p) p.start e.descs d.0 d.1 refl region
 
 pub rating_reads : (i region dimension : ℕ) → Reads Eit (λ s. rating_of s i region dimension) (rating_told i region dimension)
@@ -69,6 +69,6 @@ descriptor_reads i k = record {
 pub place_reads : (i region : ℕ) → Reads Eit (λ s. advisory_text_of s i region) (place_told i region)
 unfolding advisory_text_of
 place_reads i region = record {
-  tells = λ y o. spot_told Event y o _ _ (λ a e g l h. ap or_none (place-told (encode y) (encode_bytes Eit y o) a e g l region)) i;
+  tells = λ y o. spot_told Event y o _ _ (λ a e g l h. ap or_none (place_told_lem (encode y) (encode_bytes Eit y o) a e g l region)) i;
   refuses = λ s n q. spot_refused Event _ i s n q;
 }

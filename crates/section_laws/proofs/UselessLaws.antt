@@ -69,11 +69,11 @@ module _ (k : Kind) (judge : List ℕ → Outcome Header) (useless : Useless k j
       let e = ap (λ (h : Header). h.extension) (same_result (header_of (bare k)) (header_of (full k)) (sym a ∙ useless ∙ b)) in
       omega arith
 
-  pub no-judge : Judges k judge → ⊥
-  no-judge j = headers (judged k judge j (bare k) (bare_good k)) (judged k judge j (full k) (full_good k))
+  pub no_judge : Judges k judge → ⊥
+  no_judge j = headers (judged k judge j (bare k) (bare_good k)) (judged k judge j (full k) (full_good k))
 
-  pub no-judge-all : JudgesAll judge → ⊥
-  no-judge-all j =
+  pub no_judge_all : JudgesAll judge → ⊥
+  no_judge_all j =
       headers ((j _ (encode_bytes k (bare k) (bare_good k)) _).1 (k, (bare k, (bare_good k, (refl, refl)))))
       ((j _ (encode_bytes k (full k) (full_good k)) _).1 (k, (full k, (full_good k, (refl, refl)))))
 
@@ -253,4 +253,4 @@ no_title_units writer = no_stores writer _ (replicate 3 0) 0 (λ e. omega arith)
 
 -- ---- a library whose judge never looks at the section
 pub no_library : (l : Library) → ((k : Kind) (s t : List ℕ) → l.judge k s ≡ l.judge k t) → Keeps l → ⊥
-no_library l same keeps = no-judge Eit (l.judge Eit) (same Eit _ _) (keeps.judge Eit)
+no_library l same keeps = no_judge Eit (l.judge Eit) (same Eit _ _) (keeps.judge Eit)

@@ -5,11 +5,11 @@ use mathlib.Core.List.{List, [], ◌∷◌, ◌++◌}
 use lib.ListN.{length}
 use lib.Seq.{sets}
 use Rattle.refusal.specs.Outcomes.{Outcome, refused, resulted}
-use Rattle.refusal.proofs.OutcomeLaws.{after-result, after-refused}
+use Rattle.refusal.proofs.OutcomeLaws.{after_result, after_refused}
 use Rattle.kind.specs.declared.Kind.TheVariants.{Rrt}
 use Rattle.format.specs.Lawful.{Lies}
 use Rattle.format.specs.Repeats.{Bytes}
-use Rattle.format.proofs.ListedLaws.{Stand, first-lies, first-inside, rest-stand}
+use Rattle.format.proofs.ListedLaws.{Stand, first_lies, first_inside, rest_stand}
 use Rattle.rrt.specs.Format.{ValueFields, value_format, DimensionFields, dimension_format}
 use Rattle.rrt.specs.Fields.{values_at, first_value_at}
 use Rattle.rrt.specs.Values.{first_value_for, value_row_for}
@@ -19,7 +19,7 @@ use Rattle.section.proofs.EncodingLaws.{encode_bytes, accepts}
 use Rattle.entry.specs.declared.Entry.TheVariants.{Dimension}
 use Rattle.entry.specs.Entries.{entry_count, first_entry}
 use Rattle.entry.specs.Records.{entries_of, begin_of}
-use Rattle.entry.proofs.RecordLaws.{first-there, count_there, entries-stand}
+use Rattle.entry.proofs.RecordLaws.{first_there, count_there, entries_stand}
 use Rattle.rows.specs.Rows.{room_for_rows}
 use Rattle.rows.specs.Values.{value_rows, dimension_rows, value_count, value_rows_in, value_rows_of, with_value_rows}
 use Rattle.section_laws.specs.Accepted.{Reads}
@@ -27,69 +27,69 @@ use Rattle.section_laws.specs.Rows.{stored_rows, numbered, dimension_rows_told, 
 
 module _ (s : List ℕ) (z : Bytes s) (end : ℕ) where
   -- ---- of values that lie one after the other
-  values-there : (i j a : ℕ) (vs : List ValueFields) → Stand value_format s end a vs
+  values_there : (i j a : ℕ) (vs : List ValueFields) → Stand value_format s end a vs
       → value_rows s i j (length vs) a ≡ numbered value_format.enc (value_row_for i) j a vs
   unfolding value_rows numbered
-  values-there i j a [] g = refl
-  values-there i j a (v ∷ vs) g =
-      let l = first-lies value_format s end a v vs g in
-      let e = rrts.value-row-there s z a v g.good.0 l i j in
-      let n = ap (value_rows s i (j + 1) (length vs)) (rrts.value-end-there s z a v g.good.0 l) in
-      let u = n ∙ values-there i (j + 1) (a + length (value_format.enc v)) vs (rest-stand value_format s end a v vs g) in
+  values_there i j a [] g = refl
+  values_there i j a (v ∷ vs) g =
+      let l = first_lies value_format s end a v vs g in
+      let e = rrts.value_row_there s z a v g.good.0 l i j in
+      let n = ap (value_rows s i (j + 1) (length vs)) (rrts.value_end_there s z a v g.good.0 l) in
+      let u = n ∙ values_there i (j + 1) (a + length (value_format.enc v)) vs (rest_stand value_format s end a v vs g) in
       λ k. e k ++ u k
 
   -- ---- of a dimension that lies at d
   module _ (d : ℕ) (x : DimensionFields) (o : dimension_format.Ok (record {}) x) (l : Lies (dimension_format.enc x) s d)
       (inside : d + length (dimension_format.enc x) ≤ end) where
-    dimension-there : (i : ℕ) → value_rows s i 0 (values_at s d) (first_value_at s d) ≡ dimension_rows_told i d x
-    dimension-there i =
-        let t = rrts.values-there s z d x o l end inside in
-        let f = rrts.first-value-there s z d x o l in
+    dimension_there : (i : ℕ) → value_rows s i 0 (values_at s d) (first_value_at s d) ≡ dimension_rows_told i d x
+    dimension_there i =
+        let t = rrts.values_there s z d x o l end inside in
+        let f = rrts.first_value_there s z d x o l in
         (λ k. value_rows s i 0 (t.0 k) (f k))
-        ∙ values-there i 0 (first_value_for d x) x.values (subst (λ a. Stand value_format s end a x.values) f t.1)
+        ∙ values_there i 0 (first_value_for d x) x.values (subst (λ a. Stand value_format s end a x.values) f t.1)
 
-    dimension-counts : values_at s d ≡ length x.values
-    dimension-counts = (rrts.values-there s z d x o l end inside).0
+    dimension_counts : values_at s d ≡ length x.values
+    dimension_counts = (rrts.values_there s z d x o l end inside).0
 
   -- ---- and of several, one after the other
-  dimensions-there : (i d : ℕ) (xs : List DimensionFields) → Stand dimension_format s end d xs
+  dimensions_there : (i d : ℕ) (xs : List DimensionFields) → Stand dimension_format s end d xs
       → dimension_rows s i (length xs) d ≡ numbered dimension_format.enc dimension_rows_told i d xs
   unfolding dimension_rows numbered
-  dimensions-there i d [] g = refl
-  dimensions-there i d (x ∷ xs) g =
-      let l = first-lies dimension_format s end d x xs g in
-      let e = dimension-there d x g.good.0 l (first-inside dimension_format s end d x xs g) i in
-      let n = ap (dimension_rows s (i + 1) (length xs)) (rrts.end-there s z d x g.good.0 l) in
-      let u = n ∙ dimensions-there (i + 1) (d + length (dimension_format.enc x)) xs (rest-stand dimension_format s end d x xs g) in
+  dimensions_there i d [] g = refl
+  dimensions_there i d (x ∷ xs) g =
+      let l = first_lies dimension_format s end d x xs g in
+      let e = dimension_there d x g.good.0 l (first_inside dimension_format s end d x xs g) i in
+      let n = ap (dimension_rows s (i + 1) (length xs)) (rrts.end_there s z d x g.good.0 l) in
+      let u = n ∙ dimensions_there (i + 1) (d + length (dimension_format.enc x)) xs (rest_stand dimension_format s end d x xs g) in
       λ k. e k ++ u k
 
-  dimensions-count : (d : ℕ) (xs : List DimensionFields) → Stand dimension_format s end d xs → value_count s (length xs) d ≡ values_in xs
+  dimensions_count : (d : ℕ) (xs : List DimensionFields) → Stand dimension_format s end d xs → value_count s (length xs) d ≡ values_in xs
   unfolding value_count values_in
-  dimensions-count d [] g = refl
-  dimensions-count d (x ∷ xs) g =
-      let l = first-lies dimension_format s end d x xs g in
-      let e = dimension-counts d x g.good.0 l (first-inside dimension_format s end d x xs g) in
-      let n = ap (value_count s (length xs)) (rrts.end-there s z d x g.good.0 l) in
-      let u = n ∙ dimensions-count (d + length (dimension_format.enc x)) xs (rest-stand dimension_format s end d x xs g) in
+  dimensions_count d [] g = refl
+  dimensions_count d (x ∷ xs) g =
+      let l = first_lies dimension_format s end d x xs g in
+      let e = dimension_counts d x g.good.0 l (first_inside dimension_format s end d x xs g) in
+      let n = ap (value_count s (length xs)) (rrts.end_there s z d x g.good.0 l) in
+      let u = n ∙ dimensions_count (d + length (dimension_format.enc x)) xs (rest_stand dimension_format s end d x xs g) in
       λ k. e k + u k
 
 -- ---- the number of rows, and the lent list
 module _ (y : Section Rrt) (o : WellFormed Rrt y) where
   rows_told : dimension_rows (encode y) 0 (entry_count Dimension (encode y)) (first_entry Dimension (encode y)) ≡ value_rows_told y
   rows_told =
-      (λ k. dimension_rows (encode y) 0 (count_there Dimension y o k) (first-there Dimension y o k))
-      ∙ dimensions-there (encode y) (encode_bytes Rrt y o) (length (encode y) - 4) 0 (begin_of Dimension y) (entries_of Dimension y) (entries-stand Dimension y o)
+      (λ k. dimension_rows (encode y) 0 (count_there Dimension y o k) (first_there Dimension y o k))
+      ∙ dimensions_there (encode y) (encode_bytes Rrt y o) (length (encode y) - 4) 0 (begin_of Dimension y) (entries_of Dimension y) (entries_stand Dimension y o)
 
   count_told_lem : (room : ℕ) → value_rows_of (encode y) room ≡ value_count_told room y
   unfolding value_rows_of value_rows_in
   count_told_lem room =
-      let c = (λ k. value_count (encode y) (count_there Dimension y o k) (first-there Dimension y o k))
-      ∙ dimensions-count (encode y) (encode_bytes Rrt y o) (length (encode y) - 4) (begin_of Dimension y) (entries_of Dimension y) (entries-stand Dimension y o) in
-      after-result _ _ _ (accepts Rrt y o) ∙ ap (λ n. room_for_rows 6 n room) c
+      let c = (λ k. value_count (encode y) (count_there Dimension y o k) (first_there Dimension y o k))
+      ∙ dimensions_count (encode y) (encode_bytes Rrt y o) (length (encode y) - 4) (begin_of Dimension y) (entries_of Dimension y) (entries_stand Dimension y o) in
+      after_result _ _ _ (accepts Rrt y o) ∙ ap (λ n. room_for_rows 6 n room) c
 
 pub value_count_reads : (room : ℕ) → Reads Rrt (λ s. value_rows_of s room) (value_count_told room)
 unfolding value_rows_of
-value_count_reads room = record { tells = λ y o. count_told_lem y o room; refuses = λ s n q. after-refused _ _ n q }
+value_count_reads room = record { tells = λ y o. count_told_lem y o room; refuses = λ s n q. after_refused _ _ n q }
 
 store_told : (s l rows : List ℕ) (o : Outcome ℕ) → dimension_rows s 0 (entry_count Dimension s) (first_entry Dimension s) ≡ rows
     → with_value_rows s o l ≡ stored_rows l rows o

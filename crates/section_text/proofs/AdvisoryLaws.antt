@@ -19,7 +19,7 @@ use Rattle.format.proofs.FieldLaws.{fields_end}
 use Rattle.strings.specs.Places as places
 use Rattle.descriptor.specs.Descriptors.{region, advisory, content, descriptor, descriptors, content_advisory}
 use Rattle.rating.specs.Ratings.{descriptor_size, rated_size, region_size, region_in, region_text_at, text_in}
-use Rattle.rating.proofs.DescriptorLaws.{two, Sound, sound-first}
+use Rattle.rating.proofs.DescriptorLaws.{two, Sound, sound_first}
 use Rattle.rating.proofs.AnswerLaws.{first_left}
 use Rattle.rating.proofs.MatchLaws.{text_behind, region_taken}
 use Rattle.section_text.proofs.PlaceLaws.{SoundIn, sized_sound}
@@ -77,10 +77,10 @@ unfolding many
 next p n at g = then_inv (p at) (many p n) g.0 g.1
 
 module _ (s : List ℕ) (end number : ℕ) (inside : end ≤ length s) where
-  in-advisory : (a b : ℕ) → a + descriptor_size s a ≤ end → byte_at s a ≡ content_advisory → walks (descriptor content_advisory) s end a ≡ To b
+  in_advisory : (a b : ℕ) → a + descriptor_size s a ≤ end → byte_at s a ≡ content_advisory → walks (descriptor content_advisory) s end a ≡ To b
       → SoundText s (region_in s number a (region_text_at s) none)
   unfolding places.text_at
-  in-advisory a b h tag w =
+  in_advisory a b h tag w =
       first_left (SoundText s) s (region_size s) (a + descriptor_size s a) number (region_text_at s) none
       (λ n at. Stands (many (walks region s (a + descriptor_size s a)) n at))
       (λ n at l g.
@@ -93,15 +93,15 @@ module _ (s : List ℕ) (end number : ℕ) (inside : end ≤ length s) where
       sized_sound s (a + descriptor_size s a) (at + rated_size s at) q.0 (omega arith) (text_behind s _ at q.0 q.1.0))
       (byte_at s (a + 2) % 64) (a + 3) (descriptor_passed s end a b tag w)
 
-  pub advisory-sound : (from : ℕ) → walks_all (descriptors content_advisory) s end from ≡ To end → SoundText s (text_in s number end from)
+  pub advisory_sound : (from : ℕ) → walks_all (descriptors content_advisory) s end from ≡ To end → SoundText s (text_in s number end from)
   unfolding descriptors text_in
-  advisory-sound from w =
+  advisory_sound from w =
       first_left (SoundText s) s (descriptor_size s) end content_advisory _ none (Sound content_advisory s end)
       (λ n at h g.
-      let p = sound-first content_advisory s end (suc n) at g (omega (arith, two s at)) in
+      let p = sound_first content_advisory s end (suc n) at g (omega (arith, two s at)) in
       subst (Sound content_advisory s end n) p.1.1.0.0 (rw sub-one at p.1.1.1))
       (record {})
       (λ n at h g e.
-      let p = sound-first content_advisory s end (suc n) at g (omega (arith, two s at)) in
-      in-advisory at p.0 h e p.1.0)
+      let p = sound_first content_advisory s end (suc n) at g (omega (arith, two s at)) in
+      in_advisory at p.0 h e p.1.0)
       end from (omega arith, w)

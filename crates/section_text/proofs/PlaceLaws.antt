@@ -8,31 +8,31 @@ use lib.ListN.{length, take, drop}
 use lib.Seq.{take-length}
 use Rattle.bytes_at.specs.declared.Walk.TheVariants.{To}
 use Rattle.refusal.specs.Outcomes.{resulted}
-use Rattle.kind.specs.Kinds.{only_of}
+use Rattle.kind.specs.Kinds.{onlyOf}
 use Rattle.format.specs.Repeats.{Bytes}
 use Rattle.format.specs.Formats.{walks, walks_all}
 use Rattle.part.specs.declared.Part.{Part}
 use Rattle.part.specs.Parts.{bytes_in}
 use Rattle.strings.specs.Strings.{text, sized_text}
 use Rattle.strings.specs.Places.{text_at, text_end}
-use Rattle.strings.proofs.TextLaws.{text-end, text-inside, text-sound}
+use Rattle.strings.proofs.TextLaws.{text_end_lem, text_inside, text_sound}
 use Rattle.section.specs.declared.header.Header.{Header}
 use Rattle.section.specs.Sections.{section_by}
 use Rattle.entry.specs.declared.Entry.TheVariants.{Event, Dimension}
-use Rattle.entry.proofs.EntryLaws.{judged-begins}
+use Rattle.entry.proofs.EntryLaws.{judged_begins}
 use Rattle.section_text.specs.declared.field.Which.{Which}
 use Rattle.section_text.specs.declared.field.Which.TheVariants.{Title, Advisory, Extended, RegionName, DimensionName, ShortText, LongText}
 use Rattle.section_text.specs.Fields.{kind_for}
 use Rattle.section_text.specs.Inner.{Begun}
 
-pub judged_begun : (s : List ℕ) (w : Which) (h : Header) → section_by (only_of (kind_for w)) s ≡ resulted h → Begun s w
-judged_begun s (Title i) h e = judged-begins Event s h e
-judged_begun s (Advisory i region) h e = judged-begins Event s h e
+pub judged_begun : (s : List ℕ) (w : Which) (h : Header) → section_by (onlyOf (kind_for w)) s ≡ resulted h → Begun s w
+judged_begun s (Title i) h e = judged_begins Event s h e
+judged_begun s (Advisory i region) h e = judged_begins Event s h e
 judged_begun s Extended h e = record {}
-judged_begun s RegionName h e = judged-begins Dimension s h e
-judged_begun s (DimensionName i) h e = judged-begins Dimension s h e
-judged_begun s (ShortText i j) h e = judged-begins Dimension s h e
-judged_begun s (LongText i j) h e = judged-begins Dimension s h e
+judged_begun s RegionName h e = judged_begins Dimension s h e
+judged_begun s (DimensionName i) h e = judged_begins Dimension s h e
+judged_begun s (ShortText i j) h e = judged_begins Dimension s h e
+judged_begun s (LongText i j) h e = judged_begins Dimension s h e
 
 -- the n bytes at a place are there, and are a sound text
 pub record SoundIn (s : List ℕ) (at n : ℕ) : Type 0 where
@@ -44,8 +44,8 @@ pub sized_sound : (s : List ℕ) (end at b : ℕ) → end ≤ length s → walks
     → SoundIn s (text_at s at).start (text_at s at).length
 unfolding text_at text_end
 sized_sound s end at b h w = record {
-  there = omega (arith, text-end s end at b w, text-inside s end at b w);
-  sound = text-sound s end at b w;
+  there = omega (arith, text_end_lem s end at b w, text_inside s end at b w);
+  sound = text_sound s end at b w;
 }
 
 pub cut_out : (s : List ℕ) (p : Part) → Bytes s → SoundIn s p.start p.length

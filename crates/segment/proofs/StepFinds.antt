@@ -16,22 +16,22 @@ use Rattle.segment.specs.declared.ReadSymbol.TheVariants.{Symbol, Early}
 use Rattle.segment.proofs.BitLaws.{length_bits}
 
 module _ (t s : List ℕ) (at p e : ℕ) (step : Stepping (tree t p) (all_bits s) at e) where
-  pub step-rest : e < 2048 → (f : ReadSymbol) → Finds (on_from t (e / 16)) s (at + e % 16) p f → Finds (walked t) s at p f
+  pub step_rest : e < 2048 → (f : ReadSymbol) → Finds (on_from t (e / 16)) s (at + e % 16) p f → Finds (walked t) s at p f
   unfolding walked
-  step-rest h Early r = step.reach.node (omega arith) ∙ r
-  step-rest h (Symbol u j) r = record {
+  step_rest h Early r = step.reach.node (omega arith) ∙ r
+  step_rest h (Symbol u j) r = record {
     reads = step.reach.node (omega arith) ∙ r.reads;
     onward = omega (arith, r.onward);
     inside = r.inside;
   }
 
-  pub step-over : 2048 ≤ e → 8 * length s < at + e % 16 → walked t p (drop at (all_bits s)) ≡ early
+  pub step_over : 2048 ≤ e → 8 * length s < at + e % 16 → walked t p (drop at (all_bits s)) ≡ early
   unfolding walked
-  step-over h b = step.reach.over (omega arith) (omega (arith, length_bits s))
+  step_over h b = step.reach.over (omega arith) (omega (arith, length_bits s))
 
-  pub step-leaf : 2048 ≤ e → at + e % 16 ≤ 8 * length s → SymbolAt (walked t) s at p (e / 16 % 128) (at + e % 16)
+  pub step_leaf : 2048 ≤ e → at + e % 16 ≤ 8 * length s → SymbolAt (walked t) s at p (e / 16 % 128) (at + e % 16)
   unfolding walked
-  step-leaf h b =
+  step_leaf h b =
       let v : e / 16 - 128 ≡ e / 16 % 128 = omega (arith, step.low) in
       record {
         reads = step.reach.leaf (omega arith) (omega (arith, length_bits s)) ∙ ap (λ (x : ℕ). symbol x (drop (at + e % 16) (all_bits s))) v;

@@ -54,9 +54,9 @@ window_bit x m j l =
     ∙ ap (λ (y : ℕ). x / y % 2) (sym (power_add (8 - m) (7 - j)))
 
 module _ (s : List ℕ) (at a b : ℕ) (first : a ≡ get_or s (at / 8) 0) (second : b ≡ get_or s (at / 8 + 1) 0) (small : b < 256) where
-  bit-by : (j : ℕ) → j < 8 → (x : Bool) → ltb (at % 8 + j) 8 ≡ x
+  bit_by : (j : ℕ) → j < 8 → (x : Bool) → ltb (at % 8 + j) 8 ≡ x
       → (256 * a + b) / 2 ^ ((8 - at % 8) + (7 - j)) % 2 ≡ get_or (all_bits s) (at + j) 0
-  bit-by j l true q =
+  bit_by j l true q =
       let h : at % 8 + j < 8 = ltb-true (at % 8 + j) 8 q in
       let e : (8 - at % 8) + (7 - j) ≡ 8 + (7 - (at % 8 + j)) = omega arith in
       let f : (at + j) / 8 ≡ at / 8 = omega arith in
@@ -64,7 +64,7 @@ module _ (s : List ℕ) (at a b : ℕ) (first : a ≡ get_or s (at / 8) 0) (seco
       ap (λ (y : ℕ). (256 * a + b) / 2 ^ y % 2) e ∙ first_bit a b (7 - (at % 8 + j)) small
       ∙ ap (λ (y : ℕ). y / 2 ^ (7 - (at % 8 + j)) % 2) first
       ∙ sym (bit_at s (at + j) ∙ ap₂ (λ (y z : ℕ). get_or s y 0 / 2 ^ (7 - z) % 2) f g)
-  bit-by j l false q =
+  bit_by j l false q =
       let h : 8 ≤ at % 8 + j = ltb-false (at % 8 + j) 8 q in
       let e : (8 - at % 8) + (7 - j) ≡ 7 - (at % 8 + j - 8) = omega arith in
       let f : (at + j) / 8 ≡ at / 8 + 1 = omega arith in
@@ -73,9 +73,9 @@ module _ (s : List ℕ) (at a b : ℕ) (first : a ≡ get_or s (at / 8) 0) (seco
       ∙ ap (λ (y : ℕ). y / 2 ^ (7 - (at % 8 + j - 8)) % 2) second
       ∙ sym (bit_at s (at + j) ∙ ap₂ (λ (y z : ℕ). get_or s y 0 / 2 ^ (7 - z) % 2) f g)
 
-  pub window-made : Window s at ((256 * a + b) / 2 ^ (8 - at % 8) % 256)
-  window-made = record {
-    bit = λ j l. window_bit (256 * a + b) (at % 8) j l ∙ bit-by j l (ltb (at % 8 + j) 8) refl;
+  pub window_made : Window s at ((256 * a + b) / 2 ^ (8 - at % 8) % 256)
+  window_made = record {
+    bit = λ j l. window_bit (256 * a + b) (at % 8) j l ∙ bit_by j l (ltb (at % 8 + j) 8) refl;
     small = omega arith;
   }
 
@@ -103,7 +103,7 @@ module _ (s : List ℕ) (at w : ℕ) (z : Window s at w) (h : at + 8 ≤ 8 * len
       ∙ ap (λ (x : ℕ). number_of_bits (2 * (w / 2 ^ (8 - i)) + x) (take (8 - (i + 1)) (drop (at + (i + 1)) (all_bits s)))) (sym (z.bit i (omega arith)))
       ∙ ap (λ (x : ℕ). number_of_bits x (take (8 - (i + 1)) (drop (at + (i + 1)) (all_bits s)))) (halve w i (omega arith)) ∙ rw add-one
 
-  pub eight-bits : w ≡ number_of_bits 0 (take 8 (drop at (all_bits s)))
-  eight-bits =
+  pub eight_bits : w ≡ number_of_bits 0 (take 8 (drop at (all_bits s)))
+  eight_bits =
       let e : w / 1 ≡ w = omega arith in
       sym (so_far 8 (omega arith) ∙ number_all (drop (at + 8) (all_bits s)) 8 (w / 1) (omega arith) ∙ e)

@@ -5,7 +5,7 @@ use Rattle.annex_c.specs.Codes.{Reading, symbol, early}
 use Rattle.annex_c.specs.Tree.{tree, walk}
 use Rattle.segment.specs.Bits.{all_bits}
 use Rattle.segment.specs.Text.{Text, done, stopped, unit}
-use Rattle.segment.specs.Segment.{codedText, rawText}
+use Rattle.segment.specs.Segment.{coded_text, raw_text}
 use Rattle.segment.specs.declared.ReadSymbol.{ReadSymbol}
 use Rattle.segment.specs.declared.ReadSymbol.TheVariants.{Symbol, Early}
 use Rattle.segment.specs.declared.Judged.{Judged}
@@ -59,11 +59,11 @@ pub record PairOutcome (x : Text) (n : ℕ) (l : List ℕ) (r : ℕ) (e : List �
 
 -- so the bits of s from `at` on are read, from a coded symbol after the prior symbol p, by any number that is at least the bits left
 pub record CodedAt (read : ℕ → List ℕ → Reading) (s : List ℕ) (at p n : ℕ) (l : List ℕ) (r : ℕ) (e : List ℕ) : Type 0 where
-  pub by : (k : ℕ) → 8 * length s ≤ at + k → PairOutcome (codedText read k p (drop at (all_bits s))) n l r e
+  pub by : (k : ℕ) → 8 * length s ≤ at + k → PairOutcome (coded_text read k p (drop at (all_bits s))) n l r e
 
 -- and from a raw character on, of a symbol that began with `left` bits left
 pub record RawAt (read : ℕ → List ℕ → Reading) (s : List ℕ) (at left n : ℕ) (l : List ℕ) (r : ℕ) (e : List ℕ) : Type 0 where
-  pub by : (k : ℕ) → 8 * length s ≤ at + k → PairOutcome (rawText read k left (drop at (all_bits s))) n l r e
+  pub by : (k : ℕ) → 8 * length s ≤ at + k → PairOutcome (raw_text read k left (drop at (all_bits s))) n l r e
 
 -- where the pair stands: the place is inside the bits, and the array has room for a unit for each bit left
 pub record Room (s : List ℕ) (at n : ℕ) : Type 0 where

@@ -30,19 +30,19 @@ passed n s true rest x e = (refl, e)
 passed n s false rest x e = not_both n x e
 
 module _ (e : Edition) where
-  pub status-unheard : (c : ℕ) → e.heard ≡ false → unheard ≡ status_of e c
+  pub status_unheard : (c : ℕ) → e.heard ≡ false → unheard ≡ status_of e c
   unfolding status_of
-  status-unheard c h = rw h
+  status_unheard c h = rw h
 
   module _ (c n d : ℕ) (h : e.heard ≡ true) (f : c ≡ d) (g : n ≡ e.last + 1) where
     counted : held_or_complete c n ≡ status_of e d
     unfolding status_of
     counted = ap₂ held_or_complete f g ∙ sym (ap (λ (b : Bool). pick b (held_or_complete d (e.last + 1)) unheard) h)
 
-    pub status-complete : c ≡ n → complete n ≡ status_of e d
+    pub status_complete : c ≡ n → complete n ≡ status_of e d
     unfolding held_or_complete
-    status-complete q = eq_yes c n (complete n) (held c n) q refl ∙ counted
+    status_complete q = eq_yes c n (complete n) (held c n) q refl ∙ counted
 
-    pub status-part : (c ≡ n → ⊥) → held c n ≡ status_of e d
+    pub status_part : (c ≡ n → ⊥) → held c n ≡ status_of e d
     unfolding held_or_complete
-    status-part q = eq_no c n (complete n) (held c n) q refl ∙ counted
+    status_part q = eq_no c n (complete n) (held c n) q refl ∙ counted

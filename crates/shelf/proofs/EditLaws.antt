@@ -6,11 +6,11 @@ use native.Mathlib.Omega.{arith}
 use borrow.Author.Tests.{eqb-true}
 use Rattle.logic.specs.Choices.{pick}
 use Rattle.section.specs.declared.header.Header.{Header}
-use Rattle.shelf_state.proofs.DropLaws.{drop-nobody, drop-rules, place_is}
+use Rattle.shelf_state.proofs.DropLaws.{drop_nobody, drop_rules, place_is}
 use Rattle.logic.proofs.LoopLaws.{and_left, and_right, isnt}
 use Rattle.shelf_state.proofs.RecordLaws.{is_of_i}
 use Rattle.shelf_state.proofs.RuleLaws.{Rules, one_watch, rules}
-use Rattle.shelf_state.proofs.WatchLaws.{Fits, at_other, at_same, new-rules}
+use Rattle.shelf_state.proofs.WatchLaws.{Fits, at_other, at_same, new_rules}
 use Rattle.shelf_state.specs.Records.{asked, is_of, place_at, watch_at}
 use Rattle.shelf_state.specs.Searches.{dropped, release, set_watch}
 use Rattle.shelf_state.specs.Rules.{quota_of}
@@ -45,7 +45,7 @@ module _ (s : Shelf) (area : ℕ) (r : Rules s area) (w : ℕ) (h : Header)
   fits : Fits d w y
   fits = record {
     below = l;
-    nobody = drop-nobody s area r w;
+    nobody = drop_nobody s area r w;
     range = λ _. r.range w l v;
     last_below = λ _ _. q;
     apart = λ i a n _. isnt (is_of (watch_at s i) (asked (watch_at s w).key)) (λ e.
@@ -63,9 +63,9 @@ module _ (s : Shelf) (area : ℕ) (r : Rules s area) (w : ℕ) (h : Header)
     -- the places: those of the same edition stay, those of another are released
     pub places : (i : ℕ) → i < s.count → place_at t i ≡ pick (same_edition (watch_at s w).edition h) (place_at s i) (release w (place_at s i))
 
-  pub edited-facts : Edited (edited s w h)
+  pub edited_facts : Edited (edited s w h)
   unfolding edited
-  edited-facts = go (same_edition (watch_at s w).edition h) refl
+  edited_facts = go (same_edition (watch_at s w).edition h) refl
     where
       go : (b : Bool) → same_edition (watch_at s w).edition h ≡ b → Edited (pick b s (set_watch d w y))
       go true e =
@@ -78,10 +78,10 @@ module _ (s : Shelf) (area : ℕ) (r : Rules s area) (w : ℕ) (h : Header)
             places = λ i a. ap (λ (b : Bool). pick b (place_at s i) (release w (place_at s i))) (sym e);
           }
       go false e = record {
-        rules = new-rules d area (drop-rules s area r w) w y fits;
+        rules = new_rules d area (drop_rules s area r w) w y fits;
         records_same = refl;
         count_same = refl;
-        own = at_same d area (drop-rules s area r w) w y fits;
-        other = at_other d area (drop-rules s area r w) w y fits;
+        own = at_same d area (drop_rules s area r w) w y fits;
+        other = at_other d area (drop_rules s area r w) w y fits;
         places = λ i a. place_is s area r w i a ∙ ap (λ (b : Bool). pick b (place_at s i) (release w (place_at s i))) (sym e);
       }

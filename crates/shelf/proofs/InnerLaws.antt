@@ -5,7 +5,7 @@ use mathlib.Core.Bool.{Bool, false, not, true}
 use mathlib.Core.List.{List, []}
 use mathlib.Core.Option.{none, some}
 use native.Mathlib.Omega.{arith}
-use Rattle.logic.proofs.LoopLaws.{first-at, first_none}
+use Rattle.logic.proofs.LoopLaws.{first_at, first_none}
 use Rattle.logic.specs.Choices.{pick}
 use Rattle.logic.specs.Loops.{first}
 use Rattle.shelf_state.specs.Records.{place_at, watch_at}
@@ -18,12 +18,12 @@ module _ (s : Shelf) (w n : ℕ) (e : n ≡ (watch_at s w).edition.last + 1) whe
   pub missing_at : (m : ℕ) → m < n → ((j : ℕ) → j < m → is_held s w j ≡ true) → is_held s w m ≡ false → m ≡ lowest_missing s w
   unfolding lowest_missing
   missing_at m l f g =
-      sym (first-at (λ k. not (is_held s w k)) n m l (λ j a. ap not (f j a)) (ap not g))
+      sym (first_at (λ k. not (is_held s w k)) n m l (λ j a. ap not (f j a)) (ap not g))
       ∙ ap (λ (k : ℕ). first k (λ i. not (is_held s w i))) e
 
-  pub missing-none : ((j : ℕ) → j < n → is_held s w j ≡ true) → n ≡ lowest_missing s w
+  pub missing_none : ((j : ℕ) → j < n → is_held s w j ≡ true) → n ≡ lowest_missing s w
   unfolding lowest_missing
-  missing-none f =
+  missing_none f =
       sym (first_none (λ k. not (is_held s w k)) n (λ j a. ap not (f j a)))
       ∙ ap (λ (k : ℕ). first k (λ i. not (is_held s w i))) e
 

@@ -11,7 +11,7 @@ use borrow.Author.Tests.{leb-true, ltb-true, ne_eqb}
 use Rattle.logic.specs.Choices.{pick}
 use Rattle.refusal.specs.Outcomes.{Outcome, refused, resulted, or_refuse}
 use Rattle.section.specs.declared.header.Header.{Header}
-use Rattle.logic.proofs.LoopLaws.{any-first, any-yes}
+use Rattle.logic.proofs.LoopLaws.{any_first, any_yes}
 use Rattle.shelf_state.proofs.RecordLaws.{drop_none}
 use Rattle.shelf_state.proofs.RuleLaws.{Rules, found_live, in_range_lem, rules}
 use Rattle.shelf_state.specs.Records.{blank_watch, is_of, watch_at}
@@ -23,8 +23,8 @@ use Rattle.shelf_state.specs.declared.records.Place.{Place}
 use Rattle.shelf_state.specs.declared.records.Shelf.{Shelf}
 use Rattle.shelf_state.specs.declared.records.Watch.{Watch}
 use Rattle.refusal.proofs.OutcomeLaws.{not_both, same_result}
-use Rattle.shelf.proofs.EditLaws.{Edited, edited-facts, hearing_same}
-use Rattle.shelf.proofs.PlaceLaws.{place-below}
+use Rattle.shelf.proofs.EditLaws.{Edited, edited_facts, hearing_same}
+use Rattle.shelf.proofs.PlaceLaws.{place_below}
 use Rattle.shelf.specs.Answers.{After}
 use Rattle.shelf.specs.Calls.{answered, refused_with}
 use Rattle.shelf.specs.Inner.{Ready, Sound, dropped_below}
@@ -46,7 +46,7 @@ owns s a h w e = current (eqb h.current 0) e
     room f false g x = not_both 18 w x
     room f true g x =
         let q : watch_of s a ≡ w = same_result (watch_of s a) w x in
-        let l : watch_of s a < s.records = ltb-true _ _ (sym (any-first (λ j. is_of (watch_at s j) a) s.records) ∙ f) in
+        let l : watch_of s a < s.records = ltb-true _ _ (sym (any_first (λ j. is_of (watch_at s j) a) s.records) ∙ f) in
         subst (Owns s a h) q (record { is = refl; below = l; live = found_live s a (watch_of s a) refl l; quota = omega (arith, leb-true (h.last + 1) (watch_at s (watch_of s a)).quota g) })
 
     known : (c : Bool) → watched s a ≡ c → or_refuse 17 c (or_refuse 18 (leb (h.last + 1) (watch_at s (watch_of s a)).quota) (resulted (watch_of s a))) ≡ resulted w → Owns s a h w
@@ -61,7 +61,7 @@ owns s a h w e = current (eqb h.current 0) e
 pub owner_late : (ws : List Watch) (n : ℕ) (a : Asked) (h : Header) (w : ℕ) (c : Bool) → (h.current ≡ 0 → ⊥) → w ≡ find_watch ws n a → w < n
     → leb (h.last + 1) (watch_in ws w).quota ≡ c → or_refuse 18 c (resulted w) ≡ owner_in ws n a h
 unfolding owner_in or_refuse
-owner_late ws n a h w c f e l g = rw (ne_eqb _ _ f, any-yes _ _ e l, ← e, g)
+owner_late ws n a h w c f e l g = rw (ne_eqb _ _ f, any_yes _ _ e l, ← e, g)
 
 pub ready_of : (s : Shelf) (area : ℕ) (a : Asked) (h : Header) (n w : ℕ) → obeys s area ≡ true → Sound h n → owner_in s.watches s.records a h ≡ resulted w → Ready s w h area n
 ready_of s area a h n w o z e = let x = owns s a h w e in record { rules = o; below = x.below; live = x.live; quota = x.quota; sound = z }
@@ -74,48 +74,48 @@ module _ (s : Shelf) (w : ℕ) (h : Header) (area n : ℕ) (x : Ready s w h area
   abbrev r : Rules s area
   r = rules s area x.rules
 
-  pub ready-edited : Edited s area r w h x.below x.live x.quota t
-  ready-edited = edited-facts s area r w h x.below x.live x.quota
+  pub ready_edited : Edited s area r w h x.below x.live x.quota t
+  ready_edited = edited_facts s area r w h x.below x.live x.quota
 
   -- its last number is a byte's
-  ready-last : h.last < 64
-  ready-last = omega (arith, x.quota, (in_range_lem _ _ (r.range w x.below x.live)).quota_64)
+  ready_last : h.last < 64
+  ready_last = omega (arith, x.quota, (in_range_lem _ _ (r.range w x.below x.live)).quota_64)
 
-  pub ready-place : place_for t w h.number < t.count
-  ready-place = let e = ready-edited in
-      place-below t area e.rules w h.number
+  pub ready_place : place_for t w h.number < t.count
+  ready_place = let e = ready_edited in
+      place_below t area e.rules w h.number
       (omega (arith, x.below, e.records_same)) (ap (λ (y : Watch). y.live) e.own ∙ x.live)
       (omega (arith, x.sound.number_last, x.quota, ap (λ (y : Watch). y.quota) e.own))
 
   -- what the code asks of the numbers that it narrows
   pub record Narrow : Type 0 where
-    pub watch-16 : w < 16
+    pub watch_16 : w < 16
     pub watch_8 : w < 256
     pub count_64 : s.count ≤ 64
-    pub version-8 : h.version < 256
-    pub last-8 : h.last < 256
+    pub version_8 : h.version < 256
+    pub last_8 : h.last < 256
     pub number_8 : h.number < 256
     pub length_16 : n < 65536
 
   pub narrow : Narrow
   narrow = let k = r.size in record {
-    watch-16 = omega (arith, x.below, k.records_16);
+    watch_16 = omega (arith, x.below, k.records_16);
     watch_8 = omega (arith, x.below, k.records_16);
     count_64 = k.count_64;
-    version-8 = omega (arith, x.sound.version_5);
-    last-8 = omega (arith, ready-last);
-    number_8 = omega (arith, x.sound.number_last, ready-last);
+    version_8 = omega (arith, x.sound.version_5);
+    last_8 = omega (arith, ready_last);
+    number_8 = omega (arith, x.sound.number_last, ready_last);
     length_16 = omega (arith, x.sound.size);
   }
 
   -- and of the shelf that it has and the place that it finds
-  pub count-after : (u : Shelf) → u ≡ t → u.count ≤ 64
-  count-after u e = subst (λ (y : Shelf). y.count ≤ 64) (sym e) (omega (arith, ready-edited.count_same, r.size.count_64))
+  pub count_after : (u : Shelf) → u ≡ t → u.count ≤ 64
+  count_after u e = subst (λ (y : Shelf). y.count ≤ 64) (sym e) (omega (arith, ready_edited.count_same, r.size.count_64))
 
   pub place_inside : (u : Shelf) (i : ℕ) → u ≡ t → i ≡ place_for u w h.number → (i < 64) × (i * 4096 + n ≤ area)
   place_inside u i e f =
       let g : i ≡ place_for t w h.number = f ∙ ap (λ (y : Shelf). place_for y w h.number) e in
-      (omega (arith, g, ready-place, ready-edited.count_same, r.size.count_64), omega (arith, g, ready-place, ready-edited.count_same, r.size.area_is, x.sound.size))
+      (omega (arith, g, ready_place, ready_edited.count_same, r.size.count_64), omega (arith, g, ready_place, ready_edited.count_same, r.size.area_is, x.sound.size))
 
 pub below_count : (e : Edition) (h : Header) (k n : ℕ) → n ≡ dropped_below e h k → n ≤ k
 unfolding dropped_below
@@ -126,10 +126,10 @@ below_count e h k n q = go (same_edition e h) q
     go false f = omega (arith, f)
 
 -- the edition as the code changes it: the record is written, and of another edition every place is searched
-pub edited_by : (s : Shelf) (w : ℕ) (h : Header) (y : Watch) (n : ℕ) → y ≡ hearing (watch_at s w) h → n ≡ dropped_below (watch_at s w).edition h s.count
+pub edited_by_lem : (s : Shelf) (w : ℕ) (h : Header) (y : Watch) (n : ℕ) → y ≡ hearing (watch_at s w) h → n ≡ dropped_below (watch_at s w).edition h s.count
     → drop_below (set_watch s w y) w n ≡ edited s w h
 unfolding edited dropped_below
-edited_by s w h y n e f =
+edited_by_lem s w h y n e f =
     ap₂ (λ (z : Watch) (k : ℕ). drop_below (set_watch s w z) w k) e f
     ∙ go (same_edition (watch_at s w).edition h) refl
   where

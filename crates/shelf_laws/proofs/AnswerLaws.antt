@@ -52,9 +52,9 @@ module _ (s : Shelf) (area : List ℕ) (ok : obeys s (length area) ≡ true) whe
     abbrev w : ℕ
     w = watch_of s a
 
-    pub opening-says : (q : ℕ) → (opened s (length area) a q).outcome ≡ opening_says s (view s area a) (record { key = a; quota = q })
+    pub opening_says_lem : (q : ℕ) → (opened s (length area) a q).outcome ≡ opening_says s (view s area a) (record { key = a; quota = q })
     unfolding opened opened_in_range or_refuse_with opening_says or_refuse view at_first
-    opening-says q =
+    opening_says_lem q =
         passes (λ r. r.outcome) s (length area) ok _
         ∙ go (in_range a q) (watched s a) (any s.records (λ i. not (watch_at s i).live)) (leb (promised s + q) s.count)
       where
@@ -68,47 +68,47 @@ module _ (s : Shelf) (area : List ℕ) (ok : obeys s (length area) ≡ true) whe
         go true false true false = refl
         go true false true true = refl
 
-    pub closing-says : (closed s (length area) a).outcome ≡ closing_says (view s area a)
+    pub closing_says_lem : (closed s (length area) a).outcome ≡ closing_says (view s area a)
     unfolding closed or_refuse_with view at_first
-    closing-says = passes (λ r. r.outcome) s (length area) ok _ ∙ go (watched s a)
+    closing_says_lem = passes (λ r. r.outcome) s (length area) ok _ ∙ go (watched s a)
       where
         go : (b : Bool) → (or_refuse_with 17 s b (answered tt (set_watch (dropped s w) w blank_watch))).outcome ≡ closing_says (pick b (some (view_at s area w)) none)
         go true = refl
         go false = refl
 
-    held-is : held_numbers s w ≡ held_in (view_at s area w)
+    held_is : held_numbers s w ≡ held_in (view_at s area w)
     unfolding held_numbers view_at
-    held-is = sum_cong ((watch_at s w).edition.last + 1) (λ m. one (is_held s w m)) (λ m. one (is_some (kept_at s area w m))) (λ m _. ap one (sym (kept_held s area w m)))
+    held_is = sum_cong ((watch_at s w).edition.last + 1) (λ m. one (is_held s w m)) (λ m. one (is_some (kept_at s area w m))) (λ m _. ap one (sym (kept_held s area w m)))
 
-    pub status-says : (status_after s (length area) a).outcome ≡ status_says (view s area a)
+    pub status_says_lem : (status_after s (length area) a).outcome ≡ status_says (view s area a)
     unfolding status_after or_refuse_with view at_first view_at
-    status-says = passes (λ r. r.outcome) s (length area) ok _ ∙ go (watched s a)
+    status_says_lem = passes (λ r. r.outcome) s (length area) ok _ ∙ go (watched s a)
       where
         go : (b : Bool) → (or_refuse_with 17 s b (answered (status_of (watch_at s w).edition (held_numbers s w)) s)).outcome ≡ status_says (pick b (some (view_at s area w)) none)
-        go true = ap (λ (c : ℕ). resulted (status_of (watch_at s w).edition c)) held-is
+        go true = ap (λ (c : ℕ). resulted (status_of (watch_at s w).edition c)) held_is
         go false = refl
 
-    fetched-is : (m : ℕ) → fetched_bytes area (fetched_from s w m).outcome ≡ bytes_or22 (kept_at s area w m)
+    fetched_is : (m : ℕ) → fetched_bytes area (fetched_from s w m).outcome ≡ bytes_or22 (kept_at s area w m)
     unfolding fetched_from or_refuse_with kept_at at_first
-    fetched-is m = go (is_held s w m)
+    fetched_is m = go (is_held s w m)
       where
         go : (b : Bool) → fetched_bytes area (or_refuse_with 22 s b (answered (record { start = place_of s w m * 4096; length = (place_at s (place_of s w m)).length }) s)).outcome
             ≡ bytes_or22 (pick b (some (record { bytes = bytes_at area (place_of s w m) (place_at s (place_of s w m)).length })) none)
         go true = refl
         go false = refl
 
-    pub fetching-says : (m : ℕ) → fetched_bytes area (fetched s (length area) a m).outcome ≡ fetching_says (view s area a) m
+    pub fetching_says_lem : (m : ℕ) → fetched_bytes area (fetched s (length area) a m).outcome ≡ fetching_says (view s area a) m
     unfolding fetched or_refuse_with view at_first view_at
-    fetching-says m = passes (λ r. fetched_bytes area r.outcome) s (length area) ok _ ∙ go (watched s a)
+    fetching_says_lem m = passes (λ r. fetched_bytes area r.outcome) s (length area) ok _ ∙ go (watched s a)
       where
         go : (b : Bool) → fetched_bytes area (or_refuse_with 17 s b (fetched_from s w m)).outcome ≡ fetching_says (pick b (some (view_at s area w)) none) m
-        go true = fetched-is m
+        go true = fetched_is m
         go false = refl
 
     -- 16, 17 and 18
-    received-says : (h : Header) (n : ℕ) → done (received s a h n).outcome ≡ delivery_says (view s area a) (current_of (resulted h))
+    received_says : (h : Header) (n : ℕ) → done (received s a h n).outcome ≡ delivery_says (view s area a) (current_of (resulted h))
     unfolding received for_owner received_at owner_in delivery_says view at_first view_at or_refuse
-    received-says h n = owner (owner_in s.watches s.records a h) ∙ go (eqb h.current 0) (watched s a)
+    received_says h n = owner (owner_in s.watches s.records a h) ∙ go (eqb h.current 0) (watched s a)
       where
         owner : (o : Outcome ℕ) → done (for_owner s h n o).outcome ≡ done o
         owner (refused k) = refl
@@ -124,13 +124,13 @@ module _ (s : Shelf) (area : List ℕ) (ok : obeys s (length area) ≡ true) whe
         go false true = room (leb (h.last + 1) (watch_at s w).quota)
         go false false = refl
 
-  pub delivery-says : (pid : ℕ) (b : List ℕ) → done (delivering s (length area) pid b).outcome ≡ delivery_says (view s area (key_in pid b)) (current_on pid b)
+  pub delivery_says_lem : (pid : ℕ) (b : List ℕ) → done (delivering s (length area) pid b).outcome ≡ delivery_says (view s area (key_in pid b)) (current_on pid b)
   unfolding delivering arriving by_judge or_refuse_with current_on delivery_says or_refuse
-  delivery-says pid b = passes (λ r. done r.outcome) s (length area) ok _ ∙ range (leb pid 8191)
+  delivery_says_lem pid b = passes (λ r. done r.outcome) s (length area) ok _ ∙ range (leb pid 8191)
     where
       found : (o : Outcome Header) → done (by_judge s pid b o).outcome ≡ delivery_says (view s area (key_in pid b)) (current_of o)
       found (refused k) = refl
-      found (resulted h) = received-says (key_in pid b) h (length b)
+      found (resulted h) = received_says (key_in pid b) h (length b)
 
       range : (c : Bool) → done (or_refuse_with 15 s c (by_judge s pid b (judged b))).outcome ≡ delivery_says (view s area (key_in pid b)) (or_refuse 15 c (current_of (judged b)))
       range true = found (judged b)

@@ -13,7 +13,7 @@ use lib.Seq.{paste}
 use borrow.Author.Tests.{eqb-false, eqb-true}
 use Rattle.logic.specs.Choices.{pick}
 use Rattle.logic.specs.Loops.{◌&◌}
-use Rattle.logic.proofs.LoopLaws.{any-yes, isnt}
+use Rattle.logic.proofs.LoopLaws.{any_yes, isnt}
 use Rattle.refusal.specs.Outcomes.{Outcome, refused, resulted}
 use Rattle.section.specs.declared.header.Header.{Header}
 use Rattle.shelf_state.specs.Records.{is_of, same_key, watch_at}
@@ -33,13 +33,13 @@ use Rattle.refusal.proofs.OutcomeLaws.{not_both}
 use Rattle.shelf.proofs.CallLaws.{go_on, passed}
 use Rattle.shelf.proofs.EditLaws.{Edited}
 use Rattle.shelf.proofs.JudgeLaws.{judged_sound}
-use Rattle.shelf.proofs.OwnerLaws.{Owns, for_owner_lem, owns, place_inside, ready-edited, ready-place}
-use Rattle.shelf.proofs.PlaceLaws.{stored_other, stored-rules}
+use Rattle.shelf.proofs.OwnerLaws.{Owns, for_owner_lem, owns, place_inside, ready_edited, ready_place}
+use Rattle.shelf.proofs.PlaceLaws.{stored_other, stored_rules}
 use Rattle.shelf_laws.specs.Promised.{quota_closed, quota_opened}
 use Rattle.shelf_laws.specs.Stays.{DeliveryKeeps}
-use Rattle.shelf_laws.proofs.AreaLaws.{paste-after, paste-before, paste-size}
-use Rattle.shelf_laws.proofs.KeptLaws.{edited-other, edited-own, edited-stays, put_other, put-own}
-use Rattle.shelf_laws.proofs.MoveLaws.{Moves, by_key, other_key, own_key, promised-moves}
+use Rattle.shelf_laws.proofs.AreaLaws.{paste_after, paste_before, paste_size}
+use Rattle.shelf_laws.proofs.KeptLaws.{edited_other, edited_own, edited_stays, put_other, put_own}
+use Rattle.shelf_laws.proofs.MoveLaws.{Moves, by_key, other_key, own_key, promised_moves}
 use Rattle.shelf_laws.proofs.ViewLaws.{own_watch, seen}
 
 -- the place of an accepted section, and the shelf after it
@@ -60,10 +60,10 @@ module _ (s : Shelf) (area pid : ℕ) (b : List ℕ) (i : ℕ) (ok : obeys s are
   abbrev key : Asked
   key = key_in pid b
 
-  by-owner : (h : Header) → judged b ≡ resulted h → (o : Outcome ℕ) → owner_in s.watches s.records key h ≡ o → (for_owner s h (length b) o).outcome ≡ resulted i → Delivers s area pid b
+  by_owner : (h : Header) → judged b ≡ resulted h → (o : Outcome ℕ) → owner_in s.watches s.records key h ≡ o → (for_owner s h (length b) o).outcome ≡ resulted i → Delivers s area pid b
   unfolding delivering arriving by_judge for_owner received_at
-  by-owner h f (refused k) g x = not_both k i x
-  by-owner h f (resulted w) g x =
+  by_owner h f (refused k) g x = not_both k i x
+  by_owner h f (resulted w) g x =
       let y = owns s key h w g in
       record {
         ok = ok;
@@ -73,17 +73,17 @@ module _ (s : Shelf) (area pid : ℕ) (b : List ℕ) (i : ℕ) (ok : obeys s are
         is = sym (go_on 14 s _ _ ok (go_on 15 s _ _ range (sym (ap (by_judge s pid b) f ∙ for_owner_lem s key h (length b) (watch_of s key) (g ∙ ap resulted y.is)))));
       }
 
-  by-judge : (o : Outcome Header) → judged b ≡ o → (by_judge s pid b o).outcome ≡ resulted i → Delivers s area pid b
+  by_judge_lem : (o : Outcome Header) → judged b ≡ o → (by_judge s pid b o).outcome ≡ resulted i → Delivers s area pid b
   unfolding by_judge received
-  by-judge (refused k) f x = not_both k i x
-  by-judge (resulted h) f x = by-owner h f (owner_in s.watches s.records key h) refl x
+  by_judge_lem (refused k) f x = not_both k i x
+  by_judge_lem (resulted h) f x = by_owner h f (owner_in s.watches s.records key h) refl x
 
 pub delivery_passed : (s : Shelf) (area pid : ℕ) (b : List ℕ) (i : ℕ) → (delivering s area pid b).outcome ≡ resulted i → Delivers s area pid b
 unfolding delivering arriving
 delivery_passed s area pid b i e =
     let p = passed 14 s _ _ i e in
     let p₁ = passed 15 s _ _ i p.1 in
-    by-judge s area pid b i p.0 p₁.0 (judged b) refl p₁.1
+    by_judge_lem s area pid b i p.0 p₁.0 (judged b) refl p₁.1
 
 module _ (s : Shelf) (area b : List ℕ) (a : Asked) (h : Header) (ok : obeys s (length area) ≡ true) (z : Sound h (length b)) (x : Owns s a h (watch_of s a)) where
   abbrev w : ℕ
@@ -108,26 +108,26 @@ module _ (s : Shelf) (area b : List ℕ) (a : Asked) (h : Header) (ok : obeys s 
   y = record { rules = ok; below = x.below; live = x.live; quota = x.quota; sound = z }
 
   e : Edited s (length area) r w h x.below x.live x.quota t
-  e = ready-edited s w h (length area) (length b) y
+  e = ready_edited s w h (length area) (length b) y
 
   below : j < t.count
-  below = ready-place s w h (length area) (length b) y
+  below = ready_place s w h (length area) (length b) y
 
   inside : j * 4096 + length b ≤ length area
   inside = (place_inside s w h (length area) (length b) y t j refl refl).1
 
-  pub delivered-keeps : DeliveryKeeps s u w j area area' b
-  delivered-keeps = record {
+  pub delivered_keeps : DeliveryKeeps s u w j area area' b
+  delivered_keeps = record {
     others = record { records_same = e.records_same; count_same = e.count_same; watches_stay = e.other };
     inside = x.below;
     place_inside = omega (arith, below, e.count_same);
-    places_stay = λ i n q. stored_other t (length area) e.rules w h.number (length b) below i n ∙ edited-stays s (length area) r w h i q;
-    size_same = paste-size area (j * 4096) b inside;
-    bytes_stay = λ i. ⊎_elim (paste-before area (j * 4096) b inside i) (paste-after area (j * 4096) b inside i);
+    places_stay = λ i n q. stored_other t (length area) e.rules w h.number (length b) below i n ∙ edited_stays s (length area) r w h i q;
+    size_same = paste_size area (j * 4096) b inside;
+    bytes_stay = λ i. ⊎_elim (paste_before area (j * 4096) b inside i) (paste_after area (j * 4096) b inside i);
   }
 
-  stored-obeys : obeys u (length area) ≡ true
-  stored-obeys = obeys_i u (length area) (stored-rules t (length area) e.rules w h.number (length b) below
+  stored_obeys : obeys u (length area) ≡ true
+  stored_obeys = obeys_i u (length area) (stored_rules t (length area) e.rules w h.number (length b) below
       (omega (arith, x.below, e.records_same)) (ap (λ (y : Watch). y.live) e.own ∙ x.live) (ap (λ (y : Watch). y.edition.heard) e.own)
       (omega (arith, z.number_last, ap (λ (y : Watch). y.edition.last) e.own)) z.size)
 
@@ -136,44 +136,44 @@ module _ (s : Shelf) (area b : List ℕ) (a : Asked) (h : Header) (ok : obeys s 
   unfolding is_of
   same_key_lem k = ap (λ (y : Watch). is_of y k) e.own
 
-  same-quota : quota_of (watch_at u w) ≡ quota_of (watch_at s w)
+  same_quota : quota_of (watch_at u w) ≡ quota_of (watch_at s w)
   unfolding quota_of
-  same-quota = ap quota_of e.own
+  same_quota = ap quota_of e.own
 
-  stored-promises : promised u ≡ promised s
-  stored-promises = omega (arith, promised-moves s u w delivered-keeps.others x.below, same-quota)
+  stored_promises : promised u ≡ promised s
+  stored_promises = omega (arith, promised_moves s u w delivered_keeps.others x.below, same_quota)
 
   -- what is kept under each number
   abbrev before : ℕ → Option Kept
   before = pick (same_edition (watch_at s w).edition h) (kept_at s area w) (λ _. none)
 
-  kept-now : (n : ℕ) → kept_at u area' w n ≡ put before h.number b n
+  kept_now : (n : ℕ) → kept_at u area' w n ≡ put before h.number b n
   unfolding put
-  kept-now n = go (eqb n h.number) refl
+  kept_now n = go (eqb n h.number) refl
     where
       go : (c : Bool) → eqb n h.number ≡ c → kept_at u area' w n ≡ pick c (some (record { bytes = b })) (before n)
-      go true q = ap (kept_at u area' w) (eqb-true n h.number q) ∙ put-own t area b e.rules w h.number z.size below
-      go false q = put_other t area b e.rules w h.number z.size below w n (λ y. eqb-false n h.number q y.1) ∙ edited-own s (length area) r w h area n
+      go true q = ap (kept_at u area' w) (eqb-true n h.number q) ∙ put_own t area b e.rules w h.number z.size below
+      go false q = put_other t area b e.rules w h.number z.size below w n (λ y. eqb-false n h.number q y.1) ∙ edited_own s (length area) r w h area n
 
-  view-now : view_at u area' w ≡ hears (view_at s area w) h b
+  view_now : view_at u area' w ≡ hears (view_at s area w) h b
   unfolding view_at hears
-  view-now = λ i. record { quota = (e.own i).quota; edition = (e.own i).edition; kept = λ n. kept-now n i }
+  view_now = λ i. record { quota = (e.own i).quota; edition = (e.own i).edition; kept = λ n. kept_now n i }
 
   own_is : is_of (watch_at s w) a ≡ true
   own_is = own_watch s a x.below
 
-  stored-own : view u area' a ≡ hears_in (view s area a) b (resulted h)
-  stored-own =
-      own_key s u w delivered-keeps.others area' a x.below (same_key_lem a ∙ own_is)
+  stored_own : view u area' a ≡ hears_in (view s area a) b (resulted h)
+  stored_own =
+      own_key s u w delivered_keeps.others area' a x.below (same_key_lem a ∙ own_is)
       (λ i m. isnt (is_of (watch_at s i) a) (λ f. absurd (omega (arith, m, one_watch s (length area) r a i w (omega (arith, m, x.below)) x.below f own_is))))
-      ∙ ap some view-now
-      ∙ sym (ap (λ (v : Option View). hears_in v b (resulted h)) (seen s area a (any-yes (λ i. is_of (watch_at s i) a) s.records refl x.below)))
+      ∙ ap some view_now
+      ∙ sym (ap (λ (v : Option View). hears_in v b (resulted h)) (seen s area a (any_yes (λ i. is_of (watch_at s i) a) s.records refl x.below)))
 
-  stored-view : (k : Asked) → same_key k a ≡ false → view u area' k ≡ view s area k
-  stored-view k n =
+  stored_view : (k : Asked) → same_key k a ≡ false → view u area' k ≡ view s area k
+  stored_view k n =
       let f : is_of (watch_at s w) k ≡ false = isnt (is_of (watch_at s w) k) (λ q. two_keys (watch_at s w) k a n q own_is) in
-      other_key s u w delivered-keeps.others area area'
-      (λ v m ne. put_other t area b e.rules w h.number z.size below v m (λ y. ne y.0) ∙ edited-other s (length area) r w h area v m ne)
+      other_key s u w delivered_keeps.others area area'
+      (λ v m ne. put_other t area b e.rules w h.number z.size below v m (λ y. ne y.0) ∙ edited_other s (length area) r w h area v m ne)
       k f (same_key_lem k ∙ f)
 
 pub delivery_moves : (x : State) (d : Delivery) (f : Delivers x.shelf (length x.area) d.pid d.bytes)
@@ -187,12 +187,12 @@ delivery_moves x d f =
     let b : List ℕ = d.bytes in
     let a : Asked = key_in d.pid b in
     let z : Sound f.head (length b) = judged_sound b f.head f.judge in
-    let k = delivered-keeps s x.area b a f.head f.ok z f.owner in
+    let k = delivered_keeps s x.area b a f.head f.ok z f.owner in
     record {
-      keeps = subst (λ (n : ℕ). obeys (stored_to s a f.head (length b)) n ≡ true) (sym k.size_same) (stored-obeys s x.area b a f.head f.ok z f.owner);
+      keeps = subst (λ (n : ℕ). obeys (stored_to s a f.head (length b)) n ≡ true) (sym k.size_same) (stored_obeys s x.area b a f.head f.ok z f.owner);
       size = k.size_same;
       views = by_key (λ v. hears_in v b (judged b)) x _ a
-          (stored-own s x.area b a f.head f.ok z f.owner ∙ sym (ap (hears_in (view s x.area a) b) f.judge))
-          (stored-view s x.area b a f.head f.ok z f.owner);
-      promises = omega (arith, stored-promises s x.area b a f.head f.ok z f.owner);
+          (stored_own s x.area b a f.head f.ok z f.owner ∙ sym (ap (hears_in (view s x.area a) b) f.judge))
+          (stored_view s x.area b a f.head f.ok z f.owner);
+      promises = omega (arith, stored_promises s x.area b a f.head f.ok z f.owner);
     }

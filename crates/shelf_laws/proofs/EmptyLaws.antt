@@ -30,27 +30,27 @@ module _ (places records : ℕ) where
   abbrev s : Shelf
   s = empty_shelf places records
 
-  watch-blank : (i : ℕ) → watch_at s i ≡ blank_watch
+  watch_blank : (i : ℕ) → watch_at s i ≡ blank_watch
   unfolding empty_shelf
-  watch-blank i = replicate_at 16 i blank_watch
+  watch_blank i = replicate_at 16 i blank_watch
 
-  place-blank : (i : ℕ) → place_at s i ≡ blank_place
+  place_blank : (i : ℕ) → place_at s i ≡ blank_place
   unfolding empty_shelf
-  place-blank i = replicate_at 64 i blank_place
+  place_blank i = replicate_at 64 i blank_place
 
   shut : {A : Type 0} (i : ℕ) → (watch_at s i).live ≡ true → A
-  shut i v = true_false false (sym (ap (λ (w : Watch). w.live) (watch-blank i)) ∙ v) refl
+  shut i v = true_false false (sym (ap (λ (w : Watch). w.live) (watch_blank i)) ∙ v) refl
 
   free : {A : Type 0} (i : ℕ) → (place_at s i).used ≡ true → A
-  free i u = true_false false (sym (ap (λ (p : Place). p.used) (place-blank i)) ∙ u) refl
+  free i u = true_false false (sym (ap (λ (p : Place). p.used) (place_blank i)) ∙ u) refl
 
-  none-promised : promised s ≡ 0
-  none-promised =
-      sum_cong s.records (λ i. quota_of (watch_at s i)) (λ _. 0) (λ i _. ap quota_of (watch-blank i) ∙ quota_shut blank_watch refl)
+  none_promised : promised s ≡ 0
+  none_promised =
+      sum_cong s.records (λ i. quota_of (watch_at s i)) (λ _. 0) (λ i _. ap quota_of (watch_blank i) ∙ quota_shut blank_watch refl)
       ∙ sum_zero s.records
 
-  none-viewed : (area : List ℕ) (a : Asked) → view s area a ≡ none
-  none-viewed area a = view_none s area a (λ i _. ap (λ (w : Watch). is_of w a) (watch-blank i) ∙ is_of_shut blank_watch a refl)
+  none_viewed : (area : List ℕ) (a : Asked) → view s area a ≡ none
+  none_viewed area a = view_none s area a (λ i _. ap (λ (w : Watch). is_of w a) (watch_blank i) ∙ is_of_shut blank_watch a refl)
 
   module _ (area : ℕ) (e : sizes_in_range places records ≡ true) (f : area ≡ places * 4096) where
     fitting : Sizes s area
@@ -68,11 +68,11 @@ module _ (places records : ℕ) where
           area_is = f;
         }
 
-    empty-obeys : obeys s area ≡ true
-    empty-obeys = obeys_i s area (record {
+    empty_obeys : obeys s area ≡ true
+    empty_obeys = obeys_i s area (record {
       size = fitting;
       keys_differ_lem = λ i j l m v. shut j v;
-      promise = omega (arith, none-promised);
+      promise = omega (arith, none_promised);
       owned = λ i l u. free i u;
       once = λ i j l m u. free j u;
       last_below = λ i l v g. shut i v;
@@ -93,4 +93,4 @@ unfolding made empty_shelf
 empty_law places records area e f =
     let p = passed 14 (empty_shelf 0 0) _ _ tt e in
     subst (λ (r : After (Unit {0})). Empty places records (record { shelf = r.shelf; area = area })) (go_on 14 (empty_shelf 0 0) _ _ p.0 refl)
-    (record { places_are = refl; records_are = refl; rules = empty-obeys places records (length area) p.0 f; nothing_promised = none-promised places records; no_view = none-viewed places records area })
+    (record { places_are = refl; records_are = refl; rules = empty_obeys places records (length area) p.0 f; nothing_promised = none_promised places records; no_view = none_viewed places records area })

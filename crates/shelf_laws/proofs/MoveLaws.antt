@@ -62,8 +62,8 @@ by_key f x z a own other k = go (same_key k a) refl
 
 -- ---- one watch is changed
 module _ (s t : Shelf) (w : ℕ) (o : Others s t w) where
-  pub promised-moves : w < s.records → promised t + quota_of (watch_at s w) ≡ promised s + quota_of (watch_at t w)
-  promised-moves l = omega (
+  pub promised_moves : w < s.records → promised t + quota_of (watch_at s w) ≡ promised s + quota_of (watch_at t w)
+  promised_moves l = omega (
     arith,
     ap (promised_in t.watches) o.records_same,
     sum_at s.records (λ i. quota_of (watch_at t i)) (λ i. quota_of (watch_at s i)) w l (λ k n. ap quota_of (o.watches_stay k n)),

@@ -6,7 +6,7 @@ use mathlib.Core.List.{List}
 use native.Mathlib.Omega.{arith}
 use lib.ListN.{length}
 use borrow.Author.Tests.{ltb-true}
-use Rattle.logic.proofs.LoopLaws.{any-first, first-has, true_false}
+use Rattle.logic.proofs.LoopLaws.{any_first, first_has, true_false}
 use Rattle.part.specs.declared.Part.{Part}
 use Rattle.refusal.specs.Outcomes.{Outcome, refused, resulted}
 use Rattle.section.specs.declared.header.Header.{Header}
@@ -28,9 +28,9 @@ use Rattle.shelf.proofs.JudgeLaws.{judged_sound}
 use Rattle.shelf.proofs.OwnerLaws.{area_refused}
 use Rattle.shelf_laws.specs.Laws.{LentStays, QuestionsStay, RefusedStays, is_question}
 use Rattle.shelf_laws.specs.Stays.{ClosingKeeps, ClosingStays, DeliveryKeeps, DeliveryStays, FetchedInside, OpeningKeeps, OpeningStays}
-use Rattle.shelf_laws.proofs.CloseLaws.{closed-keeps, closing_passed}
-use Rattle.shelf_laws.proofs.DeliverLaws.{delivered-keeps, delivery_passed, place_now, stored_to}
-use Rattle.shelf_laws.proofs.OpenLaws.{opened-keeps, opening_passed}
+use Rattle.shelf_laws.proofs.CloseLaws.{closed_keeps, closing_passed}
+use Rattle.shelf_laws.proofs.DeliverLaws.{delivered_keeps, delivery_passed, place_now, stored_to}
+use Rattle.shelf_laws.proofs.OpenLaws.{opened_keeps, opening_passed}
 
 -- ---- questions
 untouched : {A : Type 0} (n : ℕ) (s : Shelf) (b : Bool) (rest : After A) → rest.shelf ≡ s → (or_refuse_with n s b rest).shelf ≡ s
@@ -67,25 +67,25 @@ ended : {A : Type 0} → true ≡ false → A
 ended e = true_false true refl e
 
 module _ (s : Shelf) (area : ℕ) where
-  opened-leaves : (a : Asked) (q : ℕ) → Leaves s (opened s area a q)
+  opened_leaves : (a : Asked) (q : ℕ) → Leaves s (opened s area a q)
   unfolding opened opened_in_range
-  opened-leaves a q = or_leaves 14 s _ _ (or_leaves 15 s _ _ (or_leaves 19 s _ _ (or_leaves 20 s _ _ (or_leaves 21 s _ _ ended))))
+  opened_leaves a q = or_leaves 14 s _ _ (or_leaves 15 s _ _ (or_leaves 19 s _ _ (or_leaves 20 s _ _ (or_leaves 21 s _ _ ended))))
 
-  closed-leaves : (a : Asked) → Leaves s (closed s area a)
+  closed_leaves : (a : Asked) → Leaves s (closed s area a)
   unfolding closed
-  closed-leaves a = or_leaves 14 s _ _ (or_leaves 17 s _ _ ended)
+  closed_leaves a = or_leaves 14 s _ _ (or_leaves 17 s _ _ ended)
 
-  delivered-leaves : (pid : ℕ) (b : List ℕ) → Leaves s (delivering s area pid b)
+  delivered_leaves : (pid : ℕ) (b : List ℕ) → Leaves s (delivering s area pid b)
   unfolding delivering arriving by_judge received for_owner received_at
-  delivered-leaves pid b = or_leaves 14 s _ _ (or_leaves 15 s _ _ (by-judge (judged b)))
+  delivered_leaves pid b = or_leaves 14 s _ _ (or_leaves 15 s _ _ (by_judge_lem (judged b)))
     where
-      by-owner : (h : Header) (o : Outcome ℕ) → Leaves s (for_owner s h (length b) o)
-      by-owner h (refused k) = λ _. refl
-      by-owner h (resulted w) = ended
+      by_owner : (h : Header) (o : Outcome ℕ) → Leaves s (for_owner s h (length b) o)
+      by_owner h (refused k) = λ _. refl
+      by_owner h (resulted w) = ended
 
-      by-judge : (o : Outcome Header) → Leaves s (by_judge s pid b o)
-      by-judge (refused k) = λ _. refl
-      by-judge (resulted h) = by-owner h (owner_in s.watches s.records (key_in pid b) h)
+      by_judge_lem : (o : Outcome Header) → Leaves s (by_judge s pid b o)
+      by_judge_lem (refused k) = λ _. refl
+      by_judge_lem (resulted h) = by_owner h (owner_in s.watches s.records (key_in pid b) h)
 
 pub lent_stays : LentStays
 lent_stays s l pid b n e = sym (area_refused l b _ n e)
@@ -117,13 +117,13 @@ refused_stays x t e = go t.call e
     l = lent_to x t.lent
 
     go : (c : Call) → accepted (step_on x t.lent l c).answer ≡ false → (step_on x t.lent l c).next ≡ x
-    go (opens o) f = ap (λ (s : Shelf). record { shelf = s; area = x.area }) (opened-leaves x.shelf (length l) o.key o.quota f)
-    go (closes c) f = ap (λ (s : Shelf). record { shelf = s; area = x.area }) (closed-leaves x.shelf (length l) c.key f)
+    go (opens o) f = ap (λ (s : Shelf). record { shelf = s; area = x.area }) (opened_leaves x.shelf (length l) o.key o.quota f)
+    go (closes c) f = ap (λ (s : Shelf). record { shelf = s; area = x.area }) (closed_leaves x.shelf (length l) c.key f)
     go (asks q) f = questions_stay x (record { call = asks q; lent = t.lent }) refl
     go (fetches g) f = questions_stay x (record { call = fetches g; lent = t.lent }) refl
     go (delivers d) f =
         let g = sym (done_is (delivering x.shelf (length l) d.pid d.bytes).outcome) ∙ f in
-        let p = delivered-leaves x.shelf (length l) d.pid d.bytes g in
+        let p = delivered_leaves x.shelf (length l) d.pid d.bytes g in
         let q = ap (area_then x t.lent) (area_leaves l d.bytes _ g) ∙ lent_back x t.lent in
         λ i. record { shelf = p i; area = q i }
 
@@ -149,12 +149,12 @@ result_obeys x u l (delivers d) e = unbroken x.shelf _ _ (sym (done_is (deliveri
 pub opening_stays : OpeningStays
 opening_stays s area a q e =
     let f = opening_passed s area a q e in
-    subst (λ (r : After (Unit {0})). OpeningKeeps s r.shelf (free_record s)) (sym f.is) (opened-keeps s area a q f)
+    subst (λ (r : After (Unit {0})). OpeningKeeps s r.shelf (free_record s)) (sym f.is) (opened_keeps s area a q f)
 
 pub closing_stays : ClosingStays
 closing_stays s area a e =
     let f = closing_passed s area a e in
-    subst (λ (r : After (Unit {0})). ClosingKeeps s r.shelf (watch_of s a)) (sym f.is) (closed-keeps s area a f)
+    subst (λ (r : After (Unit {0})). ClosingKeeps s r.shelf (watch_of s a)) (sym f.is) (closed_keeps s area a f)
 
 pub delivery_stays : DeliveryStays
 unfolding area_after
@@ -164,7 +164,7 @@ delivery_stays s l pid b i e =
     let q : place_now s a f.head ≡ i = same_result _ i (sym (ap (λ (r : After ℕ). r.outcome) f.is) ∙ e) in
     subst (λ (r : After ℕ). DeliveryKeeps s r.shelf (watch_of s a) i l (area_after l b r.outcome) b) (sym f.is)
     (subst (λ (j : ℕ). DeliveryKeeps s (stored_to s a f.head (length b)) (watch_of s a) j l (area_after l b (resulted (place_now s a f.head))) b) q
-    (delivered-keeps s l b a f.head f.ok (judged_sound b f.head f.judge) f.owner))
+    (delivered_keeps s l b a f.head f.ok (judged_sound b f.head f.judge) f.owner))
 
 -- ---- a fetched part
 pub fetched_inside : FetchedInside
@@ -176,6 +176,6 @@ fetched_inside s area a m p e =
     let w : ℕ = watch_of s a in
     let j : ℕ = place_of s w m in
     let r = rules s area p₁.0 in
-    let l : j < s.count = ltb-true j s.count (sym (any-first (λ i. holds (place_at s i) w m) s.count) ∙ p₃.0) in
-    let u = holds_parts (place_at s j) w m (first-has (λ i. holds (place_at s i) w m) s.count l) in
+    let l : j < s.count = ltb-true j s.count (sym (any_first (λ i. holds (place_at s i) w m) s.count) ∙ p₃.0) in
+    let u = holds_parts (place_at s j) w m (first_has (λ i. holds (place_at s i) w m) s.count l) in
     subst (λ (y : Part). y.start + y.length ≤ area) (same_result _ p p₃.1) (omega (arith, r.size.area_is, l, r.short j l u.0))

@@ -19,7 +19,7 @@ use Rattle.shelf.specs.Steps.{Lent, State, Step, Turn, accepted, did, gave, is_r
 use Rattle.shelf.specs.Views.{Call, asks, closes, delivers, fetches, opens}
 use Rattle.shelf_laws.specs.Laws.{AnswerLaw, Obeys, Says, StepLaw, with_lent}
 use Rattle.shelf_laws.specs.Promised.{PromisesLaw, QuotasLaw, quota_closed, quota_in, quota_next, quota_opened}
-use Rattle.shelf_laws.proofs.AnswerLaws.{closing-says, delivery-says, fetching-says, opening-says, status-says}
+use Rattle.shelf_laws.proofs.AnswerLaws.{closing_says_lem, delivery_says_lem, fetching_says_lem, opening_says_lem, status_says_lem}
 use Rattle.shelf_laws.proofs.CloseLaws.{closing_moves, closing_passed}
 use Rattle.shelf_laws.proofs.DeliverLaws.{delivery_moves, delivery_passed}
 use Rattle.shelf_laws.proofs.MoveLaws.{Moves, asked_moves, fetched_moves, no_move}
@@ -35,11 +35,11 @@ answer_law x t ok = go t.call
     l = lent_to x t.lent
 
     go : (c : Call) → Says (with_lent x t) c (step_on x t.lent l c).answer
-    go (opens o) = ap did (opening-says x.shelf l ok o.key o.quota)
-    go (closes c) = ap did (closing-says x.shelf l ok c.key)
-    go (asks q) = ap reported (status-says x.shelf l ok q.key)
-    go (fetches f) = ap gave (fetching-says x.shelf l ok f.key f.number)
-    go (delivers d) = ap did (delivery-says x.shelf l ok d.pid d.bytes)
+    go (opens o) = ap did (opening_says_lem x.shelf l ok o.key o.quota)
+    go (closes c) = ap did (closing_says_lem x.shelf l ok c.key)
+    go (asks q) = ap reported (status_says_lem x.shelf l ok q.key)
+    go (fetches f) = ap gave (fetching_says_lem x.shelf l ok f.key f.number)
+    go (delivers d) = ap did (delivery_says_lem x.shelf l ok d.pid d.bytes)
 
 -- ---- an accepted call
 pub done_tt : (o : Outcome (Unit {0})) → is_result o ≡ true → o ≡ resulted tt

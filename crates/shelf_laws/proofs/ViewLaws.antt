@@ -10,13 +10,13 @@ use lib.ListN.{length}
 use borrow.Author.Tests.{ltb-true}
 use Rattle.logic.specs.Choices.{pick}
 use Rattle.logic.specs.Loops.{first}
-use Rattle.logic.proofs.LoopLaws.{any-first, any_none, any-yes, both, first-at, first_cong, first-has, first-split, isnt, none-at, true_false}
+use Rattle.logic.proofs.LoopLaws.{any_first, any_none, any_yes, both, first_at, first_cong, first_has, first_split, isnt, none_at, true_false}
 use Rattle.shelf_state.specs.Records.{holds, holds_for, is_of, place_at, watch_at}
 use Rattle.shelf_state.specs.Searches.{is_held, place_of, watch_of, watched}
 use Rattle.shelf_state.specs.declared.records.Asked.{Asked}
 use Rattle.shelf_state.specs.declared.records.Shelf.{Shelf}
 use Rattle.shelf_state.proofs.RecordLaws.{for_i, holds_parts, is_of_key, is_of_live}
-use Rattle.shelf_state.proofs.RuleLaws.{Owned, Rules, in_range_lem, rules, unheard-holds}
+use Rattle.shelf_state.proofs.RuleLaws.{Owned, Rules, in_range_lem, rules, unheard_holds}
 use Rattle.shelf.specs.Steps.{State, view_in}
 use Rattle.shelf.specs.Views.{Kept, View, at_first, bytes_at, is_some, kept_at, view, view_at}
 use Rattle.shelf_laws.specs.Laws.{Obeys}
@@ -27,23 +27,23 @@ module _ {A : Type 0} (n : ℕ) (f : ℕ → Bool) (g : ℕ → A) where
   unfolding at_first
   at_none h = ap (λ (b : Bool). pick b (some (g (first n f))) none) (any_none f n h)
 
-  pub at-found : first n f < n → at_first n f g ≡ some (g (first n f))
+  pub at_found : first n f < n → at_first n f g ≡ some (g (first n f))
   unfolding at_first
-  at-found l = ap (λ (b : Bool). pick b (some (g (first n f))) none) (any-yes f n refl l)
+  at_found l = ap (λ (b : Bool). pick b (some (g (first n f))) none) (any_yes f n refl l)
 
   -- the only one
   pub at_only : (k : ℕ) → k < n → f k ≡ true → ((j : ℕ) → j < k → f j ≡ false) → at_first n f g ≡ some (g k)
   at_only k l e h =
-      let q : first n f ≡ k = first-at f n k l h e in
-      at-found (omega (arith, q, l)) ∙ ap (λ (i : ℕ). some (g i)) q
+      let q : first n f ≡ k = first_at f n k l h e in
+      at_found (omega (arith, q, l)) ∙ ap (λ (i : ℕ). some (g i)) q
 
 -- only the values below the bound count
 at_cong : {A : Type 0} (n : ℕ) (f f' : ℕ → Bool) (g g' : ℕ → A) → ((k : ℕ) → k < n → f k ≡ f' k) → ((k : ℕ) → k < n → f' k ≡ true → g k ≡ g' k)
     → at_first n f g ≡ at_first n f' g'
 at_cong n f f' g g' e h = ⊎_elim
-    (λ w. at-found n f g (omega (arith, same, w.0)) ∙ ap some (ap g same ∙ h (first n f') w.0 w.1) ∙ sym (at-found n f' g' w.0))
+    (λ w. at_found n f g (omega (arith, same, w.0)) ∙ ap some (ap g same ∙ h (first n f') w.0 w.1) ∙ sym (at_found n f' g' w.0))
     (λ w. at_none n f g (λ k l. e k l ∙ w.1 k l) ∙ sym (at_none n f' g' w.1))
-    (first-split f' n)
+    (first_split f' n)
   where
     same : first n f ≡ first n f'
     same = first_cong n f f' e
@@ -123,14 +123,14 @@ pub never_some : {A B : Type 0} (x : A) → none ≡ some x → B
 never_some x e = let z : ◌≡◌ {A = ℕ} 0 1 = cc in absurd (omega arith)
 
 pub found : (s : Shelf) (a : Asked) → watched s a ≡ true → watch_of s a < s.records
-found s a e = ltb-true (watch_of s a) s.records (sym (any-first (λ i. is_of (watch_at s i) a) s.records) ∙ e)
+found s a e = ltb-true (watch_of s a) s.records (sym (any_first (λ i. is_of (watch_at s i) a) s.records) ∙ e)
 
 pub own_watch : (s : Shelf) (a : Asked) → watch_of s a < s.records → is_of (watch_at s (watch_of s a)) a ≡ true
-own_watch s a l = first-has (λ i. is_of (watch_at s i) a) s.records l
+own_watch s a l = first_has (λ i. is_of (watch_at s i) a) s.records l
 
 pub viewed : (s : Shelf) (area : List ℕ) (a : Asked) (v : View) → view s area a ≡ some v → watched s a ≡ true
 viewed s area a v e = ⊎_elim (λ t. t)
-    (λ f. never_some v (sym (view_none s area a (none-at (λ i. is_of (watch_at s i) a) s.records f)) ∙ e))
+    (λ f. never_some v (sym (view_none s area a (none_at (λ i. is_of (watch_at s i) a) s.records f)) ∙ e))
     (both (watched s a))
 
 -- ---- the view of a key on a shelf that obeys its rules
@@ -150,12 +150,12 @@ module _ (x : State) (k : Asked) (v : View) (ok : Obeys x) (e : view_in x k ≡ 
   own : is_of (watch_at s w) k ≡ true
   own = own_watch s k (found s k is)
 
-  pub view-is : view_at s x.area w ≡ v
-  view-is = same_some (view_at s x.area w) v (sym (seen s x.area k is) ∙ e)
+  pub view_is : view_at s x.area w ≡ v
+  view_is = same_some (view_at s x.area w) v (sym (seen s x.area k is) ∙ e)
 
   -- its PID is in range
-  pub pid-small : k.pid ≤ 8191
-  pid-small = subst (λ (a : Asked). a.pid ≤ 8191) (is_of_key (watch_at s w) k own)
+  pub pid_small : k.pid ≤ 8191
+  pid_small = subst (λ (a : Asked). a.pid ≤ 8191) (is_of_key (watch_at s w) k own)
       (in_range_lem _ _ (r.range w (found s k is) (is_of_live (watch_at s w) k own))).pid_13
 
   -- nothing is kept above the last number
@@ -170,10 +170,10 @@ module _ (x : State) (k : Asked) (v : View) (ok : Obeys x) (e : view_in x k ≡ 
 
   pub none_above : (m : ℕ) → v.edition.last < m → v.kept m ≡ none
   unfolding view_at
-  none_above = subst (λ (y : View). (m : ℕ) → y.edition.last < m → y.kept m ≡ none) view-is above
+  none_above = subst (λ (y : View). (m : ℕ) → y.edition.last < m → y.kept m ≡ none) view_is above
 
   -- nor where nothing was heard
-  pub unheard-empty : v.edition.heard ≡ false → (m : ℕ) → v.kept m ≡ none
+  pub unheard_empty_lem : v.edition.heard ≡ false → (m : ℕ) → v.kept m ≡ none
   unfolding view_at
-  unheard-empty = subst (λ (y : View). y.edition.heard ≡ false → (m : ℕ) → y.kept m ≡ none) view-is
-      (λ h m. kept_none s x.area w m (λ i l. unheard-holds s (length x.area) r w i l h))
+  unheard_empty_lem = subst (λ (y : View). y.edition.heard ≡ false → (m : ℕ) → y.kept m ≡ none) view_is
+      (λ h m. kept_none s x.area w m (λ i l. unheard_holds s (length x.area) r w i l h))

@@ -4,7 +4,7 @@ use mathlib.Core.Path.{◌∙◌, ◌≡◌, ap, refl, subst, sym}
 use mathlib.Core.Bool.{Bool, false, true}
 use native.Mathlib.Omega.{arith}
 use Rattle.logic.specs.Choices.{pick}
-use Rattle.logic.proofs.LoopLaws.{each_at, isnt, length-each, true_false}
+use Rattle.logic.proofs.LoopLaws.{each_at, isnt, length_each, true_false}
 use Rattle.shelf_state.proofs.RecordLaws.{holds_free, holds_parts, for_parts}
 use Rattle.shelf_state.proofs.RuleLaws.{Owned, Rules}
 use Rattle.shelf_state.specs.Records.{blank_place, holds, place_at, holds_for}
@@ -48,30 +48,30 @@ module _ (s : Shelf) (area : ℕ) (h : Rules s area) (w : ℕ) where
   pub place_is : (i : ℕ) → i < s.count → place_at t i ≡ release w (place_at s i)
   place_is i a = each_at (release w) blank_place s.count s.places i a (omega (arith, h.size.count_64, h.size.places_64))
 
-  pub drop-nobody : (i : ℕ) → i < s.count → holds_for (place_at t i) w ≡ false
-  drop-nobody i a = ap (λ (p : Place). holds_for p w) (place_is i a) ∙ release_own w (place_at s i)
+  pub drop_nobody : (i : ℕ) → i < s.count → holds_for (place_at t i) w ≡ false
+  drop_nobody i a = ap (λ (p : Place). holds_for p w) (place_is i a) ∙ release_own w (place_at s i)
 
   -- a place taken afterwards is as it was
-  place-used : (i : ℕ) → i < s.count → (place_at t i).used ≡ true → place_at t i ≡ place_at s i
-  place-used i a u = place_is i a ∙ (release_used w (place_at s i) (sym (ap (λ (p : Place). p.used) (place_is i a)) ∙ u)).0
+  place_used : (i : ℕ) → i < s.count → (place_at t i).used ≡ true → place_at t i ≡ place_at s i
+  place_used i a u = place_is i a ∙ (release_used w (place_at s i) (sym (ap (λ (p : Place). p.used) (place_is i a)) ∙ u)).0
 
-  was-used : (i : ℕ) → i < s.count → (place_at t i).used ≡ true → (place_at s i).used ≡ true
-  was-used i a u = sym (ap (λ (p : Place). p.used) (place-used i a u)) ∙ u
+  was_used : (i : ℕ) → i < s.count → (place_at t i).used ≡ true → (place_at s i).used ≡ true
+  was_used i a u = sym (ap (λ (p : Place). p.used) (place_used i a u)) ∙ u
 
-  once-kept : (i j : ℕ) → i < j → j < s.count → (place_at t j).used ≡ true → holds (place_at t i) (place_at t j).watch (place_at t j).number ≡ false
-  once-kept i j a b u =
-      subst (λ (p : Place). holds (place_at t i) p.watch p.number ≡ false) (sym (place-used j b u))
+  once_kept : (i j : ℕ) → i < j → j < s.count → (place_at t j).used ≡ true → holds (place_at t i) (place_at t j).watch (place_at t j).number ≡ false
+  once_kept i j a b u =
+      subst (λ (p : Place). holds (place_at t i) p.watch p.number ≡ false) (sym (place_used j b u))
       (isnt (holds (place_at t i) (place_at s j).watch (place_at s j).number) (λ e.
-      let q = place-used i (omega (arith, a, b)) (holds_parts _ _ _ e).0 in
+      let q = place_used i (omega (arith, a, b)) (holds_parts _ _ _ e).0 in
       true_false (holds (place_at s i) (place_at s j).watch (place_at s j).number)
       (sym (ap (λ (p : Place). holds p (place_at s j).watch (place_at s j).number) q) ∙ e)
-      (h.once i j a b (was-used j b u))))
+      (h.once i j a b (was_used j b u))))
 
-  pub drop-rules : Rules t area
-  drop-rules = record {
+  pub drop_rules : Rules t area
+  drop_rules = record {
     size = record {
       watches_16 = h.size.watches_16;
-      places_64 = length-each (release w) blank_place s.count s.places ∙ h.size.places_64;
+      places_64 = length_each (release w) blank_place s.count s.places ∙ h.size.places_64;
       count_1 = h.size.count_1;
       count_64 = h.size.count_64;
       records_1 = h.size.records_1;
@@ -81,10 +81,10 @@ module _ (s : Shelf) (area : ℕ) (h : Rules s area) (w : ℕ) where
     keys_differ_lem = h.keys_differ_lem;
     promise = h.promise;
     owned = λ i a u.
-        let o : Owned s (place_at s i) = h.owned i a (was-used i a u) in
-        subst (Owned t) (sym (place-used i a u)) (record { below = o.below; live = o.live; heard = o.heard; upto = o.upto });
-    once = once-kept;
+        let o : Owned s (place_at s i) = h.owned i a (was_used i a u) in
+        subst (Owned t) (sym (place_used i a u)) (record { below = o.below; live = o.live; heard = o.heard; upto = o.upto });
+    once = once_kept;
     last_below = h.last_below;
-    short = λ i a u. subst (λ (p : Place). p.length ≤ 4096) (sym (place-used i a u)) (h.short i a (was-used i a u));
+    short = λ i a u. subst (λ (p : Place). p.length ≤ 4096) (sym (place_used i a u)) (h.short i a (was_used i a u));
     range = h.range;
   }

@@ -9,9 +9,9 @@ use lib.ListN.{get_or, length, length-set, set}
 use lib.Seq.{get_or-set_other, get_or-set_same}
 use borrow.Author.Tests.{le-ltb, lt-ltb}
 use Rattle.logic.specs.Choices.{pick}
-use Rattle.logic.proofs.LoopLaws.{all-at, and_i, and_left, and_no_left, and_no_right, and_right, any-more, both, if_i, if_then, isnt, not_e, not_i, true_false}
+use Rattle.logic.proofs.LoopLaws.{all_at, and_i, and_left, and_no_left, and_no_right, and_right, any_more, both, if_i, if_then, isnt, not_e, not_i, true_false}
 use Rattle.shelf_state.proofs.RecordLaws.{holds_free, holds_i, holds_parts}
-use Rattle.shelf_state.proofs.RuleLaws.{Owned, in_range_lem, owner_facts, watch-facts}
+use Rattle.shelf_state.proofs.RuleLaws.{Owned, in_range_lem, owner_facts, watch_facts}
 use Rattle.logic.specs.Loops.{any}
 use Rattle.shelf_state.specs.Records.{holds, place_at, watch_at}
 use Rattle.shelf_state.specs.Tests.{owner_ok, place_ok, sound_under, watch_ok, watches_ok}
@@ -28,7 +28,7 @@ seen_none s seen z h = record { size = z; flag = λ w n a b. h (w * 64 + n) }
 
 -- one place more, by what it holds
 more : (p : ℕ → Bool) (i : ℕ) (b : Bool) → p i ≡ b → any (i + 1) p ≡ pick b true (any i p)
-more p i b e = any-more p i ∙ ap (λ (x : Bool). pick x true (any i p)) e
+more p i b e = any_more p i ∙ ap (λ (x : Bool). pick x true (any i p)) e
 
 pub seen_free : (s : Shelf) (i : ℕ) (seen : List Bool) → Seen s i seen → (place_at s i).used ≡ false → Seen s (i + 1) seen
 seen_free s i seen h f = record {
@@ -64,36 +64,36 @@ flag_is s i k seen b h small e f = sym (h.flag _ _ small.0 small.1) ∙ sym (ap 
 pub flag_small : (s : Shelf) (p : Place) → s.records ≤ 16 → watches_ok s.watches s.records ≡ true → owner_ok s p ≡ true → (p.watch < 16) × (p.number < 64)
 flag_small s p l h e =
     let o : Owned s p = owner_facts s p e in
-    let f = watch-facts s p.watch (all-at (watch_ok s.watches) s.records h p.watch o.below) o.live in
+    let f = watch_facts s p.watch (all_at (watch_ok s.watches) s.records h p.watch o.below) o.live in
     (omega (arith, o.below), omega (arith, o.upto, f.1 o.heard, (in_range_lem _ _ f.0).quota_64))
 
 -- ---- what the test of a place comes to
 -- its owner's part, as the code finds it
 module _ (s : Shelf) (p : Place) {o : ℕ} (is : o ≡ p.watch) where
-  pub owner-yes : o < s.records → sound_under (watch_at s o) p ≡ true → owner_ok s p ≡ true
+  pub owner_yes : o < s.records → sound_under (watch_at s o) p ≡ true → owner_ok s p ≡ true
   unfolding owner_ok
-  owner-yes l e = and_i _ _ (lt-ltb p.watch s.records (omega (arith, is, l))) (sym (ap (λ (x : ℕ). sound_under (watch_at s x) p) is) ∙ e)
+  owner_yes l e = and_i _ _ (lt-ltb p.watch s.records (omega (arith, is, l))) (sym (ap (λ (x : ℕ). sound_under (watch_at s x) p) is) ∙ e)
 
-  pub owner-no : sound_under (watch_at s o) p ≡ false → owner_ok s p ≡ false
+  pub owner_no : sound_under (watch_at s o) p ≡ false → owner_ok s p ≡ false
   unfolding owner_ok
-  owner-no f = and_no_right _ _ (sym (ap (λ (x : ℕ). sound_under (watch_at s x) p) is) ∙ f)
+  owner_no f = and_no_right _ _ (sym (ap (λ (x : ℕ). sound_under (watch_at s x) p) is) ∙ f)
 
-  pub owner-past : s.records ≤ o → owner_ok s p ≡ false
+  pub owner_past : s.records ≤ o → owner_ok s p ≡ false
   unfolding owner_ok
-  owner-past l = and_no_left _ _ (le-ltb p.watch s.records (omega (arith, is, l)))
+  owner_past l = and_no_left _ _ (le-ltb p.watch s.records (omega (arith, is, l)))
 
 module _ (s : Shelf) (i : ℕ) where
-  pub place-free : (place_at s i).used ≡ false → place_ok s i ≡ true
+  pub place_free : (place_at s i).used ≡ false → place_ok s i ≡ true
   unfolding place_ok
-  place-free f = if_i _ _ (λ u. true_false (place_at s i).used u f)
+  place_free f = if_i _ _ (λ u. true_false (place_at s i).used u f)
 
-  pub place-sound : owner_ok s (place_at s i) ≡ true → any i (λ j. holds (place_at s j) (place_at s i).watch (place_at s i).number) ≡ false → place_ok s i ≡ true
+  pub place_sound : owner_ok s (place_at s i) ≡ true → any i (λ j. holds (place_at s j) (place_at s i).watch (place_at s i).number) ≡ false → place_ok s i ≡ true
   unfolding place_ok
-  place-sound e n = if_i _ _ (λ u. and_i _ _ e (not_i _ n))
+  place_sound e n = if_i _ _ (λ u. and_i _ _ e (not_i _ n))
 
-  pub place-owner : (place_at s i).used ≡ true → owner_ok s (place_at s i) ≡ false → place_ok s i ≡ false
+  pub place_owner : (place_at s i).used ≡ true → owner_ok s (place_at s i) ≡ false → place_ok s i ≡ false
   unfolding place_ok
-  place-owner u f = isnt (place_ok s i) (λ t. true_false (owner_ok s (place_at s i)) (and_left _ _ (if_then _ _ t u)) f)
+  place_owner u f = isnt (place_ok s i) (λ t. true_false (owner_ok s (place_at s i)) (and_left _ _ (if_then _ _ t u)) f)
 
   pub place_twice : (place_at s i).used ≡ true → any i (λ j. holds (place_at s j) (place_at s i).watch (place_at s i).number) ≡ true → place_ok s i ≡ false
   unfolding place_ok

@@ -11,8 +11,8 @@ use Rattle.logic.specs.Choices.{if_eq, pick}
 use Rattle.kind.specs.Kinds.{kind_of}
 use Rattle.kind.specs.declared.Found.{Found}
 use Rattle.kind.specs.declared.Kind.{Kind}
-use Rattle.logic.proofs.CountLaws.{Sorted, count_by, count_gap, count_none, count_some, numbers, pigeon, pigeon-gap, sum_lt}
-use Rattle.logic.proofs.LoopLaws.{all-at, all-i, and_i, and_left, and_right, any_none, both, first-has, if_i, if_then, isnt, neither_below, none-at, not_e, not_i, same_truth, true_false}
+use Rattle.logic.proofs.CountLaws.{Sorted, count_by, count_gap, count_none, count_some, numbers, pigeon, pigeon_gap, sum_lt}
+use Rattle.logic.proofs.LoopLaws.{all_at, all_i, and_i, and_left, and_right, any_none, both, first_has, if_i, if_then, isnt, neither_below, none_at, not_e, not_i, same_truth, true_false}
 use Rattle.shelf_state.proofs.RecordLaws.{holds_i, holds_parts, is_of_key, is_of_live, for_i, for_parts}
 use Rattle.logic.specs.Loops.{any, count}
 use Rattle.shelf_state.specs.Records.{asked, holds, is_of, place_at, holds_for, watch_at}
@@ -145,47 +145,47 @@ module _ (s : Shelf) (area : ℕ) (h : Rules s area) where
           let b : (place_at s i).number ≤ (watch_at s w).edition.last = rw u.1 at o.upto in
           omega (arith, b, up v g)
 
-  below-quota : (w : ℕ) → w < s.records → Sorted s.count (watch_at s w).quota (λ i. holds_for (place_at s i) w) (λ i. (place_at s i).number)
-  below-quota w l = sorted w (watch_at s w).quota (h.last_below w l)
+  below_quota : (w : ℕ) → w < s.records → Sorted s.count (watch_at s w).quota (λ i. holds_for (place_at s i) w) (λ i. (place_at s i).number)
+  below_quota w l = sorted w (watch_at s w).quota (h.last_below w l)
 
   -- a closed watch holds nothing, and so does one with no edition
-  pub shut-holds : (w i : ℕ) → i < s.count → (watch_at s w).live ≡ false → holds_for (place_at s i) w ≡ false
-  shut-holds w i l v = isnt (holds_for (place_at s i) w) (λ t.
+  pub shut_holds : (w i : ℕ) → i < s.count → (watch_at s w).live ≡ false → holds_for (place_at s i) w ≡ false
+  shut_holds w i l v = isnt (holds_for (place_at s i) w) (λ t.
       let u = for_parts (place_at s i) w t in
       let o : Owned s (place_at s i) = h.owned i l u.0 in
       true_false (watch_at s w).live (rw u.1 at o.live) v)
 
-  pub unheard-holds : (w i : ℕ) → i < s.count → (watch_at s w).edition.heard ≡ false → holds_for (place_at s i) w ≡ false
-  unheard-holds w i l v = isnt (holds_for (place_at s i) w) (λ t.
+  pub unheard_holds : (w i : ℕ) → i < s.count → (watch_at s w).edition.heard ≡ false → holds_for (place_at s i) w ≡ false
+  unheard_holds w i l v = isnt (holds_for (place_at s i) w) (λ t.
       let u = for_parts (place_at s i) w t in
       let o : Owned s (place_at s i) = h.owned i l u.0 in
       true_false (watch_at s w).edition.heard (rw u.1 at o.heard) v)
 
   -- no watch holds more than its quota
-  pub held-quota : (w : ℕ) → w < s.records → held_by s w ≤ quota_of (watch_at s w)
-  held-quota w l = ⊎_elim
-      (λ e. rw (quota_live (watch_at s w) e) (pigeon s.count (watch_at s w).quota (λ i. holds_for (place_at s i) w) (λ i. (place_at s i).number) (below-quota w l)))
-      (λ e. let z : held_by s w ≡ 0 = count_none s.count (λ i. holds_for (place_at s i) w) (λ i m. shut-holds w i m e) in omega (arith, z))
+  pub held_quota : (w : ℕ) → w < s.records → held_by s w ≤ quota_of (watch_at s w)
+  held_quota w l = ⊎_elim
+      (λ e. rw (quota_live (watch_at s w) e) (pigeon s.count (watch_at s w).quota (λ i. holds_for (place_at s i) w) (λ i. (place_at s i).number) (below_quota w l)))
+      (λ e. let z : held_by s w ≡ 0 = count_none s.count (λ i. holds_for (place_at s i) w) (λ i m. shut_holds w i m e) in omega (arith, z))
       (both (watch_at s w).live)
 
   -- a watch's sections are as many as the numbers that it holds, all at most its last
-  pub held-numbers : (w : ℕ) → held_by s w ≡ count ((watch_at s w).edition.last + 1) (λ n. is_held s w n)
+  pub held_numbers_lem : (w : ℕ) → held_by s w ≡ count ((watch_at s w).edition.last + 1) (λ n. is_held s w n)
   unfolding holds
-  held-numbers w = numbers s.count ((watch_at s w).edition.last + 1) (λ i. holds_for (place_at s i) w) (λ i. (place_at s i).number) (sorted w _ (λ v g. omega arith))
+  held_numbers_lem w = numbers s.count ((watch_at s w).edition.last + 1) (λ i. holds_for (place_at s i) w) (λ i. (place_at s i).number) (sorted w _ (λ v g. omega arith))
 
   -- an open watch that lacks a number below its quota leaves a place free
-  pub room-left : (w n : ℕ) → w < s.records → (watch_at s w).live ≡ true → n < (watch_at s w).quota
+  pub room_left : (w n : ℕ) → w < s.records → (watch_at s w).live ≡ true → n < (watch_at s w).quota
       → ((i : ℕ) → i < s.count → holds (place_at s i) w n ≡ false) → free_place s < s.count
   unfolding holds holds_for
-  room-left w n l e q lacks =
+  room_left w n l e q lacks =
       count_gap s.count (λ i. (place_at s i).used)
       (omega (
         arith,
         h.promise,
         count_by s.count s.records (λ i. (place_at s i).used) (λ i. (place_at s i).watch) (λ i a u. (h.owned i a u).below),
-        sum_lt s.records (held_by s) (λ i. quota_of (watch_at s i)) held-quota w l
+        sum_lt s.records (held_by s) (λ i. quota_of (watch_at s i)) held_quota w l
             (rw (quota_live (watch_at s w) e)
-            (pigeon-gap s.count (watch_at s w).quota (λ i. holds_for (place_at s i) w) (λ i. (place_at s i).number) (below-quota w l) n q lacks)),
+            (pigeon_gap s.count (watch_at s w).quota (λ i. holds_for (place_at s i) w) (λ i. (place_at s i).number) (below_quota w l) n q lacks)),
       ))
 
 -- ---- the rules' value says the facts
@@ -194,7 +194,7 @@ module _ (s : Shelf) (area : ℕ) (h : obeys s area ≡ true) where
       → places_owned s ≡ true → unheard_empty s ≡ true → Owned s (place_at s i)
   unfolding places_owned unheard_empty
   owned_at i l u a b =
-      let e = if_then _ _ (all-at _ s.count a i l) u in
+      let e = if_then _ _ (all_at _ s.count a i l) u in
       let w = (place_at s i).watch in
       let below : w < s.records = ltb-true _ _ (and_left _ _ e) in
       let live : (watch_at s w).live ≡ true = and_left _ _ (and_right _ _ e) in
@@ -204,7 +204,7 @@ module _ (s : Shelf) (area : ℕ) (h : obeys s area ≡ true) where
         heard = ⊎_elim (λ g. g)
             (λ g. absurd (omega (
               arith,
-              eqb-true (held_by s w) 0 (if_then _ _ (all-at _ s.records b w below) (and_i _ _ live (ap not g))),
+              eqb-true (held_by s w) 0 (if_then _ _ (all_at _ s.records b w below) (and_i _ _ live (ap not g))),
               count_some s.count (λ j. holds_for (place_at s j) w) i l (for_i (place_at s i) w u refl),
             )))
             (both (watch_at s w).edition.heard);
@@ -224,13 +224,13 @@ module _ (s : Shelf) (area : ℕ) (h : obeys s area ≡ true) where
       let h₈ = and_right _ _ h₇ in
       record {
         size = sizes s area (and_left _ _ h);
-        keys_differ_lem = λ i j l m v. none-at (λ k. is_of (watch_at s k) (asked (watch_at s j).key)) j (not_e _ (if_then _ _ (all-at _ s.records (and_left _ _ h₁) j m) v)) i l;
+        keys_differ_lem = λ i j l m v. none_at (λ k. is_of (watch_at s k) (asked (watch_at s j).key)) j (not_e _ (if_then _ _ (all_at _ s.records (and_left _ _ h₁) j m) v)) i l;
         promise = leb-true _ _ (and_left _ _ h₂);
         owned = λ i l u. owned_at i l u (and_left _ _ h₃) (and_left _ _ h₇);
-        once = λ i j l m u. none-at (λ k. holds (place_at s k) (place_at s j).watch (place_at s j).number) j (not_e _ (if_then _ _ (all-at _ s.count (and_left _ _ h₄) j m) u)) i l;
-        last_below = λ w l v g. ltb-true _ _ (if_then _ _ (all-at _ s.records (and_left _ _ h₆) w l) (and_i _ _ v g));
-        short = λ i l u. leb-true _ _ (if_then _ _ (all-at _ s.count (and_left _ _ h₈) i l) u);
-        range = λ w l v. if_then _ _ (all-at _ s.records (and_right _ _ h₈) w l) v;
+        once = λ i j l m u. none_at (λ k. holds (place_at s k) (place_at s j).watch (place_at s j).number) j (not_e _ (if_then _ _ (all_at _ s.count (and_left _ _ h₄) j m) u)) i l;
+        last_below = λ w l v g. ltb-true _ _ (if_then _ _ (all_at _ s.records (and_left _ _ h₆) w l) (and_i _ _ v g));
+        short = λ i l u. leb-true _ _ (if_then _ _ (all_at _ s.count (and_left _ _ h₈) i l) u);
+        range = λ w l v. if_then _ _ (all_at _ s.records (and_right _ _ h₈) w l) v;
       }
 
 -- and the facts say that value
@@ -238,15 +238,15 @@ pub obeys_i : (s : Shelf) (area : ℕ) → Rules s area → obeys s area ≡ tru
 unfolding obeys keys_differ quotas_fit places_owned none_twice none_above_quota last_below_quota unheard_empty lengths_fit keys_in_range
 obeys_i s area h =
     and_i _ _ (sizes_i s area h.size)
-    (and_i _ _ (all-i _ s.records (λ j l. if_i _ _ (λ v. not_i _ (any_none _ j (λ i m. h.keys_differ_lem i j m l v)))))
+    (and_i _ _ (all_i _ s.records (λ j l. if_i _ _ (λ v. not_i _ (any_none _ j (λ i m. h.keys_differ_lem i j m l v)))))
     (and_i _ _ (le-leb _ _ h.promise)
-    (and_i _ _ (all-i _ s.count (λ i l. if_i _ _ (λ u. let o = h.owned i l u in and_i _ _ (lt-ltb _ _ o.below) (and_i _ _ o.live (le-leb _ _ o.upto)))))
-    (and_i _ _ (all-i _ s.count (λ j l. if_i _ _ (λ u. not_i _ (any_none _ j (λ i m. h.once i j m l u)))))
-    (and_i _ _ (all-i _ s.records (λ w l. if_i _ _ (λ v. le-leb (held_by s w) (watch_at s w).quota (omega (arith, held-quota s area h w l, quota_live (watch_at s w) v)))))
-    (and_i _ _ (all-i _ s.records (λ w l. if_i _ _ (λ v. lt-ltb _ _ (h.last_below w l (and_left _ _ v) (and_right _ _ v)))))
-    (and_i _ _ (all-i _ s.records (λ w l. if_i _ _ (λ v. eq-eqb _ _ (count_none s.count (λ i. holds_for (place_at s i) w) (λ i m. unheard-holds s area h w i m (not_e _ (and_right _ _ v)))))))
-    (and_i _ _ (all-i _ s.count (λ i l. if_i _ _ (λ u. le-leb _ _ (h.short i l u))))
-    (all-i _ s.records (λ w l. if_i _ _ (λ v. h.range w l v)))))))))))
+    (and_i _ _ (all_i _ s.count (λ i l. if_i _ _ (λ u. let o = h.owned i l u in and_i _ _ (lt-ltb _ _ o.below) (and_i _ _ o.live (le-leb _ _ o.upto)))))
+    (and_i _ _ (all_i _ s.count (λ j l. if_i _ _ (λ u. not_i _ (any_none _ j (λ i m. h.once i j m l u)))))
+    (and_i _ _ (all_i _ s.records (λ w l. if_i _ _ (λ v. le-leb (held_by s w) (watch_at s w).quota (omega (arith, held_quota s area h w l, quota_live (watch_at s w) v)))))
+    (and_i _ _ (all_i _ s.records (λ w l. if_i _ _ (λ v. lt-ltb _ _ (h.last_below w l (and_left _ _ v) (and_right _ _ v)))))
+    (and_i _ _ (all_i _ s.records (λ w l. if_i _ _ (λ v. eq-eqb _ _ (count_none s.count (λ i. holds_for (place_at s i) w) (λ i m. unheard_holds s area h w i m (not_e _ (and_right _ _ v)))))))
+    (and_i _ _ (all_i _ s.count (λ i l. if_i _ _ (λ u. le-leb _ _ (h.short i l u))))
+    (all_i _ s.records (λ w l. if_i _ _ (λ v. h.range w l v)))))))))))
 
 -- ---- the tests' value says the facts
 pub owner_facts : (s : Shelf) (p : Place) → owner_ok s p ≡ true → Owned s p
@@ -262,61 +262,61 @@ owner_facts s p e =
     }
 
 module _ (s : Shelf) (i : ℕ) where
-  pub watch-facts : watch_ok s.watches i ≡ true → (watch_at s i).live ≡ true
+  pub watch_facts : watch_ok s.watches i ≡ true → (watch_at s i).live ≡ true
       → (in_range (asked (watch_at s i).key) (watch_at s i).quota ≡ true) × ((watch_at s i).edition.heard ≡ true → (watch_at s i).edition.last < (watch_at s i).quota)
       × (any i (λ j. is_of (watch_at s j) (asked (watch_at s i).key)) ≡ false)
   unfolding watch_ok watch_sound key_is_new last_ok
-  watch-facts e v =
+  watch_facts e v =
       let f = if_then _ _ (and_left _ _ e) v in
       (and_left _ _ f, λ d. ltb-true _ _ (if_then _ _ (and_right _ _ f) d), not_e _ (if_then _ _ (and_right _ _ e) v))
 
-  place-facts : place_ok s i ≡ true → (place_at s i).used ≡ true
+  place_facts : place_ok s i ≡ true → (place_at s i).used ≡ true
       → (owner_ok s (place_at s i) ≡ true) × (any i (λ j. holds (place_at s j) (place_at s i).watch (place_at s i).number) ≡ false)
   unfolding place_ok
-  place-facts e u = let f = if_then _ _ e u in (and_left _ _ f, not_e _ (and_right _ _ f))
+  place_facts e u = let f = if_then _ _ e u in (and_left _ _ f, not_e _ (and_right _ _ f))
 
 owner_short : (s : Shelf) (p : Place) → owner_ok s p ≡ true → p.length ≤ 4096
 unfolding owner_ok sound_under
 owner_short s p e = leb-true _ _ (and_left _ _ (and_right _ _ e))
 
 module _ (s : Shelf) (area : ℕ) (h : tested s area ≡ true) where
-  watch-tested : (i : ℕ) → i < s.records → watch_ok s.watches i ≡ true
+  watch_tested : (i : ℕ) → i < s.records → watch_ok s.watches i ≡ true
   unfolding tested
-  watch-tested = all-at (watch_ok s.watches) s.records (and_left _ _ (and_right _ _ h))
+  watch_tested = all_at (watch_ok s.watches) s.records (and_left _ _ (and_right _ _ h))
 
-  place-tested : (i : ℕ) → i < s.count → (place_at s i).used ≡ true
+  place_tested : (i : ℕ) → i < s.count → (place_at s i).used ≡ true
       → (owner_ok s (place_at s i) ≡ true) × (any i (λ j. holds (place_at s j) (place_at s i).watch (place_at s i).number) ≡ false)
   unfolding tested
-  place-tested i l = place-facts s i (all-at (place_ok s) s.count (and_right _ _ (and_right _ _ (and_right _ _ h))) i l)
+  place_tested i l = place_facts s i (all_at (place_ok s) s.count (and_right _ _ (and_right _ _ (and_right _ _ h))) i l)
 
-  tested-facts : Rules s area
+  tested_facts : Rules s area
   unfolding tested
-  tested-facts = record {
+  tested_facts = record {
     size = sizes s area (and_left _ _ h);
-    keys_differ_lem = λ i j l m v. none-at (λ k. is_of (watch_at s k) (asked (watch_at s j).key)) j (watch-facts s j (watch-tested j m) v).2 i l;
+    keys_differ_lem = λ i j l m v. none_at (λ k. is_of (watch_at s k) (asked (watch_at s j).key)) j (watch_facts s j (watch_tested j m) v).2 i l;
     promise = omega (arith, leb-true (promised s + 0) s.count (and_left _ _ (and_right _ _ (and_right _ _ h))));
-    owned = λ i l u. owner_facts s (place_at s i) (place-tested i l u).0;
-    once = λ i j l m u. none-at (λ k. holds (place_at s k) (place_at s j).watch (place_at s j).number) j (place-tested j m u).1 i l;
-    last_below = λ w l v g. (watch-facts s w (watch-tested w l) v).1 g;
-    short = λ i l u. owner_short s (place_at s i) (place-tested i l u).0;
-    range = λ w l v. (watch-facts s w (watch-tested w l) v).0;
+    owned = λ i l u. owner_facts s (place_at s i) (place_tested i l u).0;
+    once = λ i j l m u. none_at (λ k. holds (place_at s k) (place_at s j).watch (place_at s j).number) j (place_tested j m u).1 i l;
+    last_below = λ w l v g. (watch_facts s w (watch_tested w l) v).1 g;
+    short = λ i l u. owner_short s (place_at s i) (place_tested i l u).0;
+    range = λ w l v. (watch_facts s w (watch_tested w l) v).0;
   }
 
 tested_i : (s : Shelf) (area : ℕ) → Rules s area → tested s area ≡ true
 unfolding tested watch_ok watch_sound key_is_new last_ok place_ok owner_ok sound_under
 tested_i s area h =
     and_i _ _ (sizes_i s area h.size)
-    (and_i _ _ (all-i _ s.records (λ i l. and_i _ _
+    (and_i _ _ (all_i _ s.records (λ i l. and_i _ _
     (if_i _ _ (λ v. and_i _ _ (h.range i l v) (if_i _ _ (λ g. lt-ltb _ _ (h.last_below i l v g)))))
     (if_i _ _ (λ v. not_i _ (any_none _ i (λ j m. h.keys_differ_lem j i m l v))))))
     (and_i _ _ (le-leb (promised s + 0) s.count (omega (arith, h.promise)))
-    (all-i _ s.count (λ i l. if_i _ _ (λ u. let o = h.owned i l u in
+    (all_i _ s.count (λ i l. if_i _ _ (λ u. let o = h.owned i l u in
     and_i _ _ (and_i _ _ (lt-ltb _ _ o.below) (and_i _ _ (le-leb _ _ (h.short i l u)) (and_i _ _ o.live (and_i _ _ o.heard (le-leb _ _ o.upto)))))
     (not_i _ (any_none _ i (λ j m. h.once j i m l u))))))))
 
 -- the tests give the rules' own value
 pub tested_rules : (s : Shelf) (area : ℕ) → tested s area ≡ obeys s area
-tested_rules s area = same_truth (tested s area) (obeys s area) (λ e. obeys_i s area (tested-facts s area e)) (λ e. tested_i s area (rules s area e))
+tested_rules s area = same_truth (tested s area) (obeys s area) (λ e. obeys_i s area (tested_facts s area e)) (λ e. tested_i s area (rules s area e))
 
 -- ---- what the calls use
 -- after the rules' test, as the code has it
@@ -327,7 +327,7 @@ rules_of s area r e n = rules s area (sym e ∙ not-false r n)
 pub found_live : (s : Shelf) (a : Asked) (w : ℕ) → w ≡ watch_of s a → w < s.records → (watch_at s w).live ≡ true
 found_live s a w e l =
     let l' : watch_of s a < s.records = rw e at l in
-    rw e (is_of_live _ a (first-has (λ i. is_of (watch_at s i) a) s.records l'))
+    rw e (is_of_live _ a (first_has (λ i. is_of (watch_at s i) a) s.records l'))
 
 -- two open watches of one key are one
 pub one_watch : (s : Shelf) (area : ℕ) → Rules s area → (a : Asked) (i j : ℕ) → i < s.records → j < s.records

@@ -36,22 +36,22 @@ module _ (s : Shelf) (area : ℕ) (h : Rules s area) (w : ℕ) (x : Watch) (f : 
   at_other i n = get_or-set_other s.watches w i x blank_watch n
 
   -- what holds of the new record and of every other one holds of every record
-  each-watch : (P : ℕ → Watch → Type 0) → P w x → ((i : ℕ) → (i ≡ w → ⊥) → P i (watch_at s i)) → (i : ℕ) → P i (watch_at t i)
-  each-watch P new old i = ⊎_elim
+  each_watch : (P : ℕ → Watch → Type 0) → P w x → ((i : ℕ) → (i ≡ w → ⊥) → P i (watch_at s i)) → (i : ℕ) → P i (watch_at t i)
+  each_watch P new old i = ⊎_elim
       (λ e. subst (λ (k : ℕ). P k (watch_at t k)) (sym e) (subst (P w) (sym at_same) new))
       (λ e. subst (P i) (sym (at_other i e)) (old i e))
       (same_or_not i w)
 
   -- the places promised move by the two records' quotas
-  pub promise-moves : promised t + quota_of (watch_at s w) ≡ promised s + quota_of x
-  promise-moves = omega (
+  pub promise_moves : promised t + quota_of (watch_at s w) ≡ promised s + quota_of x
+  promise_moves = omega (
     arith,
     ap quota_of at_same,
     sum_at s.records (λ i. quota_of (watch_at t i)) (λ i. quota_of (watch_at s i)) w f.below (λ k n. ap quota_of (at_other k n)),
   )
 
-  owned-new : (i : ℕ) → i < s.count → (place_at s i).used ≡ true → Owned t (place_at s i)
-  owned-new i a u =
+  owned_new : (i : ℕ) → i < s.count → (place_at s i).used ≡ true → Owned t (place_at s i)
+  owned_new i a u =
       let o : Owned s (place_at s i) = h.owned i a u in
       let n : (place_at s i).watch ≡ w → ⊥ = (λ q. true_false (holds_for (place_at s i) w) (for_i (place_at s i) w u q) (f.nobody i a)) in
       let e : watch_at t (place_at s i).watch ≡ watch_at s (place_at s i).watch = at_other (place_at s i).watch n in
@@ -68,14 +68,14 @@ module _ (s : Shelf) (area : ℕ) (h : Rules s area) (w : ℕ) (x : Watch) (f : 
       true_false (is_of (watch_at s j) (asked x.key))
       (is_of_i (watch_at s j) (asked x.key) v (sym (is_of_key x (asked (watch_at s j).key) e))) (f.apart j b n (is_of_live x (asked (watch_at s j).key) e)))
 
-  keys-new : (i j : ℕ) → i < j → j < s.records → (watch_at t j).live ≡ true → is_of (watch_at t i) (asked (watch_at t j).key) ≡ false
-  keys-new i j = each-watch (λ j y. i < j → j < s.records → y.live ≡ true → is_of (watch_at t i) (asked y.key) ≡ false)
+  keys_new : (i j : ℕ) → i < j → j < s.records → (watch_at t j).live ≡ true → is_of (watch_at t i) (asked (watch_at t j).key) ≡ false
+  keys_new i j = each_watch (λ j y. i < j → j < s.records → y.live ≡ true → is_of (watch_at t i) (asked y.key) ≡ false)
       (λ a b v. subst (λ (z : Watch). is_of z (asked x.key) ≡ false) (sym (at_other i (λ e. omega (arith, a, e)))) (f.apart i (omega (arith, a, b)) (λ e. omega (arith, a, e)) v))
-      (λ j n a b v. each-watch (λ i z. i < j → is_of z (asked (watch_at s j).key) ≡ false) (λ c. new_apart j b n v) (λ i m c. h.keys_differ_lem i j c b v) i a)
+      (λ j n a b v. each_watch (λ i z. i < j → is_of z (asked (watch_at s j).key) ≡ false) (λ c. new_apart j b n v) (λ i m c. h.keys_differ_lem i j c b v) i a)
       j
 
-  pub new-rules : Rules t area
-  new-rules = record {
+  pub new_rules : Rules t area
+  new_rules = record {
     size = record {
       watches_16 = length-set s.watches w x ∙ h.size.watches_16;
       places_64 = h.size.places_64;
@@ -85,11 +85,11 @@ module _ (s : Shelf) (area : ℕ) (h : Rules s area) (w : ℕ) (x : Watch) (f : 
       records_16 = h.size.records_16;
       area_is = h.size.area_is;
     };
-    keys_differ_lem = keys-new;
-    promise = omega (arith, f.promise, promise-moves);
-    owned = owned-new;
+    keys_differ_lem = keys_new;
+    promise = omega (arith, f.promise, promise_moves);
+    owned = owned_new;
     once = h.once;
-    last_below = each-watch (λ i y. i < s.records → y.live ≡ true → y.edition.heard ≡ true → y.edition.last < y.quota) (λ a v g. f.last_below v g) (λ i n a v g. h.last_below i a v g);
+    last_below = each_watch (λ i y. i < s.records → y.live ≡ true → y.edition.heard ≡ true → y.edition.last < y.quota) (λ a v g. f.last_below v g) (λ i n a v g. h.last_below i a v g);
     short = h.short;
-    range = each-watch (λ i y. i < s.records → y.live ≡ true → in_range (asked y.key) y.quota ≡ true) (λ a v. f.range v) (λ i n a v. h.range i a v);
+    range = each_watch (λ i y. i < s.records → y.live ≡ true → in_range (asked y.key) y.quota ≡ true) (λ a v. f.range v) (λ i n a v. h.range i a v);
   }

@@ -9,10 +9,10 @@ module _ {A : Type 0} (P : A → Type 0) (a b : A) (p : P a) (q : P b) where
   either true = p
   either false = q
 
-  pub lt-either : (x y : ℕ) → P (if_lt x y a b)
+  pub lt_either : (x y : ℕ) → P (if_lt x y a b)
   unfolding if_lt
-  lt-either x y = either (ltb x y)
+  lt_either x y = either (ltb x y)
 
-  pub eq-either : (x y : ℕ) → P (if_eq x y a b)
+  pub eq_either : (x y : ℕ) → P (if_eq x y a b)
   unfolding if_eq
-  eq-either x y = either (eqb x y)
+  eq_either x y = either (eqb x y)

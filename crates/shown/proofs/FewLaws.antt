@@ -10,13 +10,13 @@ use borrow.Author.Tests.{ltb-false}
 use Rattle.logic.specs.Choices.{pick, if_lt}
 use Rattle.refusal.specs.Outcomes.{Outcome, refused, resulted}
 use Rattle.text.specs.Strings.{string_units}
-use Rattle.text.proofs.FewLaws.{Few, string-few}
+use Rattle.text.proofs.FewLaws.{Few, string_few}
 use Rattle.eit.specs.declared.event.Title.{Title}
 use Rattle.eit.specs.declared.event.Title.TheVariants.{Text}
 use Rattle.eit.specs.Titles.{title_of}
 use Rattle.shown.specs.Ascii.{ascii, digit, decimal_by, decimal, field}
 use Rattle.shown.specs.Titles.{escaped, plain, shown, all_shown, text_shown, title_shown}
-use Rattle.shown.proofs.BothLaws.{either, eq-either}
+use Rattle.shown.proofs.BothLaws.{either, eq_either}
 
 -- ---- numbers
 abbrev tens : ℕ → ℕ
@@ -64,11 +64,11 @@ module _ (s : List ℕ) (start n : ℕ) where
   abbrev pub Short : Title → Type 0
   Short t = length (title_shown s t) ≤ 28 + 48 * n
 
-  string-shown : Short (Text (record { start = start; length = n }))
+  string_shown : Short (Text (record { start = start; length = n }))
   unfolding title_shown
-  string-shown = omega (arith, text_few (8 * (start + n - start)) (string_units s (start + n) start 0) (string-few s (start + n) start 0))
+  string_shown = omega (arith, text_few (8 * (start + n - start)) (string_units s (start + n) start 0) (string_few s (start + n) start 0))
 
   pub title_few : Short (title_of s start n)
   unfolding title_shown title_of
   title_few =
-      eq-either Short _ _ (omega arith) (eq-either Short _ _ (eq-either Short _ _ (omega arith) string-shown _ _) string-shown _ _) _ _
+      eq_either Short _ _ (omega arith) (eq_either Short _ _ (eq_either Short _ _ (omega arith) string_shown _ _) string_shown _ _) _ _

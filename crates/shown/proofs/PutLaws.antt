@@ -53,16 +53,16 @@ put_end {l} {e} {n} {r} bs i h p = subst (λ (x : List ℕ). Put x l n r e) (tak
 
 -- a number of one digit, of two, and of more
 module _ (x most : ℕ) where
-  one-digit : x < 10 → digit x ∷ [] ≡ decimal_by (suc most) x
+  one_digit : x < 10 → digit x ∷ [] ≡ decimal_by (suc most) x
   unfolding decimal_by
-  one-digit h = lt_yes x 10 (digit x ∷ []) (decimal_by most (x / 10) ++ (digit (x % 10) ∷ [])) h refl
+  one_digit h = lt_yes x 10 (digit x ∷ []) (decimal_by most (x / 10) ++ (digit (x % 10) ∷ [])) h refl
 
-  last-digit : 10 ≤ x → decimal_by most (x / 10) ++ (digit (x % 10) ∷ []) ≡ decimal_by (suc most) x
+  last_digit : 10 ≤ x → decimal_by most (x / 10) ++ (digit (x % 10) ∷ []) ≡ decimal_by (suc most) x
   unfolding decimal_by
-  last-digit h = lt_no x 10 (digit x ∷ []) (decimal_by most (x / 10) ++ (digit (x % 10) ∷ [])) h refl
+  last_digit h = lt_no x 10 (digit x ∷ []) (decimal_by most (x / 10) ++ (digit (x % 10) ∷ [])) h refl
 
 two_digits : (x most : ℕ) → 10 ≤ x → x < 100 → digit (x / 10) ∷ digit (x % 10) ∷ [] ≡ decimal_by (suc (suc most)) x
-two_digits x most h g = ap (λ (l : List ℕ). l ++ (digit (x % 10) ∷ [])) (one-digit (x / 10) most (omega arith)) ∙ last-digit x (suc most) h
+two_digits x most h g = ap (λ (l : List ℕ). l ++ (digit (x % 10) ∷ [])) (one_digit (x / 10) most (omega arith)) ∙ last_digit x (suc most) h
 
 last_two : (x most : ℕ) → 100 ≤ x
     → decimal_by most (x / 100) ++ (digit (x % 100 / 10) ∷ digit (x % 100 % 10) ∷ []) ≡ decimal_by (suc (suc most)) x
@@ -71,17 +71,17 @@ last_two x most h =
     let b : x % 100 / 10 ≡ x / 10 % 10 = omega arith in
     let c : x % 100 % 10 ≡ x % 10 = omega arith in
     rw (a, b, c) (sym (append_assoc (decimal_by most (x / 10 / 10)) (digit (x / 10 % 10) ∷ []) (digit (x % 10) ∷ [])))
-    ∙ ap (λ (l : List ℕ). l ++ (digit (x % 10) ∷ [])) (last-digit (x / 10) most (omega arith)) ∙ last-digit x (suc most) (omega arith)
+    ∙ ap (λ (l : List ℕ). l ++ (digit (x % 10) ∷ [])) (last_digit (x / 10) most (omega arith)) ∙ last_digit x (suc most) (omega arith)
 
 module _ {l e : List ℕ} {n r : ℕ} where
   pub number_small : (x most : ℕ) → x < most → x < 10 → Put (digit x ∷ []) l n r e → Put (decimal_by most x) l n r e
   number_small x zero h g p = absurd (omega (arith, h))
-  number_small x (suc most) h g p = subst (λ (y : List ℕ). Put y l n r e) (one-digit x most g) p
+  number_small x (suc most) h g p = subst (λ (y : List ℕ). Put y l n r e) (one_digit x most g) p
 
-  pub number-pair : (x most : ℕ) → x < most → 10 ≤ x → x < 100 → Put (digit (x / 10) ∷ digit (x % 10) ∷ []) l n r e → Put (decimal_by most x) l n r e
-  number-pair x zero h g f p = absurd (omega (arith, h))
-  number-pair x (suc zero) h g f p = absurd (omega (arith, h, g))
-  number-pair x (suc (suc most)) h g f p = subst (λ (y : List ℕ). Put y l n r e) (two_digits x most g f) p
+  pub number_pair : (x most : ℕ) → x < most → 10 ≤ x → x < 100 → Put (digit (x / 10) ∷ digit (x % 10) ∷ []) l n r e → Put (decimal_by most x) l n r e
+  number_pair x zero h g f p = absurd (omega (arith, h))
+  number_pair x (suc zero) h g f p = absurd (omega (arith, h, g))
+  number_pair x (suc (suc most)) h g f p = subst (λ (y : List ℕ). Put y l n r e) (two_digits x most g f) p
 
   pub number_more : {k : List ℕ} {m : ℕ} (x most : ℕ) → x < most → 100 ≤ x → ((j : ℕ) → x / 100 < j → Put (decimal_by j (x / 100)) l n m k)
       → Put (digit (x % 100 / 10) ∷ digit (x % 100 % 10) ∷ []) k m r e → Put (decimal_by most x) l n r e

@@ -17,16 +17,16 @@ use Rattle.shown.proofs.PutLaws.{put_then}
 
 -- ---- which units print plainly
 module _ (u : ℕ) where
-  pub plain-low : u < 32 → false ≡ plain u
+  pub plain_low : u < 32 → false ≡ plain u
   unfolding plain
-  plain-low h = lt_yes u 32 false _ h refl
+  plain_low h = lt_yes u 32 false _ h refl
 
-  pub plain-high : 32 ≤ u → 126 < u → false ≡ plain u
+  pub plain_high : 32 ≤ u → 126 < u → false ≡ plain u
   unfolding plain
-  plain-high h g = lt_no u 32 false _ h (lt_yes 126 u false _ g refl)
+  plain_high h g = lt_no u 32 false _ h (lt_yes 126 u false _ g refl)
 
-  pub plain-mark : (m : ℕ) → false ≡ plain m → u ≡ m → false ≡ plain u
-  plain-mark m h e = h ∙ ap plain (sym e)
+  pub plain_mark : (m : ℕ) → false ≡ plain m → u ≡ m → false ≡ plain u
+  plain_mark m h e = h ∙ ap plain (sym e)
 
   pub plain_other : 32 ≤ u → u ≤ 126 → (u ≡ 34 → ⊥) → (u ≡ 92 → ⊥) → true ≡ plain u
   unfolding plain

@@ -12,7 +12,7 @@ use borrow.Author.Tests.{le-leb, lt-leb, leb-true, leb-false}
 use Rattle.annex_c.specs.Tree.{tree, child}
 use Rattle.steps.specs.Steps.{entry_from, steps_of_tree, steps_from, step_table}
 use Rattle.steps.specs.Reaches.{Reached, Stepping}
-use Rattle.steps.proofs.WalkLaws.{walk_early, walk-leaf, walk-node}
+use Rattle.steps.proofs.WalkLaws.{walk_early, walk_leaf, walk_node}
 
 -- one bit of an entry
 abbrev by_leaf : List ℕ → ℕ → ℕ → ℕ → Bool → ℕ
@@ -27,85 +27,85 @@ unfolding entry_from
 entry_end u w n = refl
 
 module _ (u : List ℕ) (w k n v : ℕ) (e : v ≡ child u n (w / 2 ^ k % 2)) where
-  pub entry-leaf : 128 ≤ v → entry_from u w (suc k) n ≡ 16 * v + (4 - k)
-  entry-leaf l = rw (entry_bit, ← e, le-leb 128 v l)
+  pub entry_leaf : 128 ≤ v → entry_from u w (suc k) n ≡ 16 * v + (4 - k)
+  entry_leaf l = rw (entry_bit, ← e, le-leb 128 v l)
 
-  pub entry-node : v < 128 → entry_from u w (suc k) n ≡ entry_from u w k v
-  entry-node l = rw (entry_bit, ← e, lt-leb 128 v l)
+  pub entry_node : v < 128 → entry_from u w (suc k) n ≡ entry_from u w k v
+  entry_node l = rw (entry_bit, ← e, lt-leb 128 v l)
 
 -- the four bits w are those from i on, and 0 past the end
 abbrev pub Four : List ℕ → ℕ → ℕ → Type 0
 Four bs i w = (j : ℕ) → j < 4 → w / 2 ^ (3 - j) % 2 ≡ get_or bs (i + j) 0
 
 module _ (u bs : List ℕ) (i w : ℕ) (four : Four bs i w) where
-  reached-end : (n : ℕ) → n < 128 → Reached u bs n (i + (4 - 0)) ((16 * n + 4) / 16) (i + (16 * n + 4) % 16)
-  reached-end n l =
+  reached_end : (n : ℕ) → n < 128 → Reached u bs n (i + (4 - 0)) ((16 * n + 4) / 16) (i + (16 * n + 4) % 16)
+  reached_end n l =
       let e : (16 * n + 4) / 16 ≡ n = omega arith in
       let f : (16 * n + 4) % 16 ≡ 4 = omega arith in
       record { leaf = λ a b. absurd (omega arith); over = λ a b. absurd (omega arith); node = λ a. rw (e, f) }
 
-  reached-leaf : (k n v : ℕ) → k < 4 → 128 ≤ v → v ≡ child u n (get_or bs (i + (3 - k)) 0)
+  reached_leaf : (k n v : ℕ) → k < 4 → 128 ≤ v → v ≡ child u n (get_or bs (i + (3 - k)) 0)
       → Reached u bs n (i + (4 - suc k)) ((16 * v + (4 - k)) / 16) (i + (16 * v + (4 - k)) % 16)
-  reached-leaf k n v h l q =
+  reached_leaf k n v h l q =
       let e : (16 * v + (4 - k)) / 16 ≡ v = omega arith in
       let f : i + (16 * v + (4 - k)) % 16 ≡ i + (3 - k) + 1 = omega arith in
       let g : i + (4 - suc k) ≡ i + (3 - k) = omega arith in
       rw (e, f, g) (record {
-        leaf = λ a b. walk-leaf u bs n (i + (3 - k)) v q (omega arith) l;
+        leaf = λ a b. walk_leaf u bs n (i + (3 - k)) v q (omega arith) l;
         over = λ a b. walk_early u bs n (i + (3 - k)) (omega arith);
         node = λ a. absurd (omega arith);
       })
 
-  reached-node : (k n v x : ℕ) → k < 4 → v < 128 → v ≡ child u n (get_or bs (i + (3 - k)) 0)
+  reached_node : (k n v x : ℕ) → k < 4 → v < 128 → v ≡ child u n (get_or bs (i + (3 - k)) 0)
       → Reached u bs v (i + (4 - k)) (x / 16) (i + x % 16) → Reached u bs n (i + (4 - suc k)) (x / 16) (i + x % 16)
-  reached-node k n v x h l q r =
+  reached_node k n v x h l q r =
       let g : i + (4 - suc k) ≡ i + (3 - k) = omega arith in
       let f : i + (4 - k) ≡ i + (3 - k) + 1 = omega arith in
-      let m = rw (← f) at (walk-node u bs n (i + (3 - k)) v q l) in
+      let m = rw (← f) at (walk_node u bs n (i + (3 - k)) v q l) in
       rw g (record {
         leaf = λ a b. m ∙ r.leaf a b;
         over = λ a b. m ∙ r.over a b;
         node = λ a. m ∙ r.node a;
       })
 
-  child-four : (k n : ℕ) → k < 4 → child u n (w / 2 ^ k % 2) ≡ child u n (get_or bs (i + (3 - k)) 0)
-  child-four k n h =
+  child_four : (k n : ℕ) → k < 4 → child u n (w / 2 ^ k % 2) ≡ child u n (get_or bs (i + (3 - k)) 0)
+  child_four k n h =
       let e : 3 - (3 - k) ≡ k = omega arith in
       ap (child u n) (rw e at (four (3 - k) (omega arith)))
 
   abbrev next : ℕ → ℕ → ℕ
   next k n = child u n (w / 2 ^ k % 2)
 
-  reached-by : (k n : ℕ) → k < 4
+  reached_by : (k n : ℕ) → k < 4
       → (next k n < 128 → Reached u bs (next k n) (i + (4 - k)) (entry_from u w k (next k n) / 16) (i + entry_from u w k (next k n) % 16))
       → (x : Bool) → leb 128 (next k n) ≡ x
       → Reached u bs n (i + (4 - suc k)) (entry_from u w (suc k) n / 16) (i + entry_from u w (suc k) n % 16)
-  reached-by k n h r true q =
+  reached_by k n h r true q =
       let m = leb-true 128 (next k n) q in
-      rw (entry-leaf u w k n (next k n) refl m) (reached-leaf k n (next k n) h m (child-four k n h))
-  reached-by k n h r false q =
+      rw (entry_leaf u w k n (next k n) refl m) (reached_leaf k n (next k n) h m (child_four k n h))
+  reached_by k n h r false q =
       let m = leb-false 128 (next k n) q in
-      rw (entry-node u w k n (next k n) refl m)
-      (reached-node k n (next k n) (entry_from u w k (next k n)) h m (child-four k n h) (r m))
+      rw (entry_node u w k n (next k n) refl m)
+      (reached_node k n (next k n) (entry_from u w k (next k n)) h m (child_four k n h) (r m))
 
-  reached-from : (k n : ℕ) → k ≤ 4 → n < 128 → Reached u bs n (i + (4 - k)) (entry_from u w k n / 16) (i + entry_from u w k n % 16)
-  reached-from zero n h l = rw (entry_end u w n) (reached-end n l)
-  reached-from (suc k) n h l =
-      reached-by k n (omega arith) (λ m. reached-from k (next k n) (omega arith) m) (leb 128 (next k n)) refl
+  reached_from : (k n : ℕ) → k ≤ 4 → n < 128 → Reached u bs n (i + (4 - k)) (entry_from u w k n / 16) (i + entry_from u w k n % 16)
+  reached_from zero n h l = rw (entry_end u w n) (reached_end n l)
+  reached_from (suc k) n h l =
+      reached_by k n (omega arith) (λ m. reached_from k (next k n) (omega arith) m) (leb 128 (next k n)) refl
 
 -- a leaf takes a bit or more
 module _ (u : List ℕ) (w : ℕ) where
-  used-by : (k n : ℕ) → k < 4 → (4 - (k - 1) ≤ entry_from u w k (child u n (w / 2 ^ k % 2)) % 16) → (x : Bool)
+  used_by : (k n : ℕ) → k < 4 → (4 - (k - 1) ≤ entry_from u w k (child u n (w / 2 ^ k % 2)) % 16) → (x : Bool)
       → leb 128 (child u n (w / 2 ^ k % 2)) ≡ x → 4 - k ≤ entry_from u w (suc k) n % 16
-  used-by k n h r true q =
-      rw (entry-leaf u w k n (child u n (w / 2 ^ k % 2)) refl (leb-true 128 (child u n (w / 2 ^ k % 2)) q)) (omega arith)
-  used-by k n h r false q =
-      rw (entry-node u w k n (child u n (w / 2 ^ k % 2)) refl (leb-false 128 (child u n (w / 2 ^ k % 2)) q)) (omega arith)
+  used_by k n h r true q =
+      rw (entry_leaf u w k n (child u n (w / 2 ^ k % 2)) refl (leb-true 128 (child u n (w / 2 ^ k % 2)) q)) (omega arith)
+  used_by k n h r false q =
+      rw (entry_node u w k n (child u n (w / 2 ^ k % 2)) refl (leb-false 128 (child u n (w / 2 ^ k % 2)) q)) (omega arith)
 
   used : (k n : ℕ) → k ≤ 4 → 4 - (k - 1) ≤ entry_from u w k n % 16
   used zero n h = rw (entry_end u w n) (omega arith)
   used (suc k) n h =
-      let r = used-by k n (omega arith) (used k (child u n (w / 2 ^ k % 2)) (omega arith)) (leb 128 (child u n (w / 2 ^ k % 2))) refl in
+      let r = used_by k n (omega arith) (used k (child u n (w / 2 ^ k % 2)) (omega arith)) (leb 128 (child u n (w / 2 ^ k % 2))) refl in
       omega arith
 
 -- ---- the entries one by one
@@ -160,7 +160,7 @@ stepping t bs p i w e small four q low = by (leb 128 p) refl
     by false z =
         let d : e ≡ entry_from (tree t p) w 4 0 = q ∙ step_at t 128 0 p w (leb-false 128 p z) small ∙ rw zero-add in
         record {
-          reach = rw d (rw add-zero at (reached-from (tree t p) bs i w four 4 0 (omega arith) (omega arith)));
+          reach = rw d (rw add-zero at (reached_from (tree t p) bs i w four 4 0 (omega arith) (omega arith)));
           low = low;
           onward = λ a. rw d (omega (arith, used (tree t p) w 4 0 (omega arith)));
         }

@@ -32,11 +32,11 @@ unfolding walk
 walk_bit u bs n b = refl
 
 module _ (u bs : List ℕ) (n i v : ℕ) (e : v ≡ child u n (get_or bs i 0)) where
-  pub walk-leaf : i < length bs → 128 ≤ v → walk u n (drop i bs) ≡ symbol (v - 128) (drop (i + 1) bs)
-  walk-leaf h l = rw (head bs i h, walk_bit, ← e, le-leb 128 v l)
+  pub walk_leaf : i < length bs → 128 ≤ v → walk u n (drop i bs) ≡ symbol (v - 128) (drop (i + 1) bs)
+  walk_leaf h l = rw (head bs i h, walk_bit, ← e, le-leb 128 v l)
 
-  pub walk-node : v < 128 → walk u n (drop i bs) ≡ walk u v (drop (i + 1) bs)
-  walk-node l = by (leb (length bs) i) refl
+  pub walk_node : v < 128 → walk u n (drop i bs) ≡ walk u v (drop (i + 1) bs)
+  walk_node l = by (leb (length bs) i) refl
     where
       by : (x : Bool) → leb (length bs) i ≡ x → walk u n (drop i bs) ≡ walk u v (drop (i + 1) bs)
       by true q =

@@ -14,7 +14,7 @@ use Rattle.format.specs.Laws.OfValues.{bytes_length}
 use Rattle.format.specs.Values.{bytes_of}
 use Rattle.format.specs.Told.{sized8}
 use Rattle.format.proofs.FieldLaws.{fields_end}
-use Rattle.format.proofs.SizedLaws.{sized8-there}
+use Rattle.format.proofs.SizedLaws.{sized8_there}
 use Rattle.strings.specs.Strings.{text, sized_text}
 use Rattle.strings.specs.Places.{text_at, text_end}
 
@@ -33,30 +33,30 @@ module _ (s : List ℕ) (end at b : ℕ) (w : walks sized_text s end at ≡ To b
         (omega (arith, u, v), subst (λ e. walks_all text s e (at + 1) ≡ To b) (omega (arith, v)) (subst (λ a. walks_all text s q.0 a ≡ To b) t.0 q.1.1)),
       )
 
-  pub text-end : b ≡ text_end s at
+  pub text_end_lem : b ≡ text_end s at
   unfolding text_end
-  text-end = passed.0
+  text_end_lem = passed.0
 
-  pub text-inside : (at < b) × (b ≤ end)
-  text-inside = (omega (arith, passed.0), passed.1.0)
+  pub text_inside : (at < b) × (b ≤ end)
+  text_inside = (omega (arith, passed.0), passed.1.0)
 
   -- its text is sound where it stands
-  pub text-sound : walks_all text s (text_end s at) (at + 1) ≡ To (text_end s at)
-  text-sound = subst (λ e. walks_all text s e (at + 1) ≡ To e) text-end passed.1.1
+  pub text_sound : walks_all text s (text_end s at) (at + 1) ≡ To (text_end s at)
+  text_sound = subst (λ e. walks_all text s e (at + 1) ≡ To e) text_end_lem passed.1.1
 
 -- where a text lies with its length, its place is this
 pub text_there : (s : List ℕ) (at : ℕ) → Bytes s → (x : text.Val) → (sized8 text).Ok (record {}) (record {}, x)
     → Lies ((sized8 text).enc (record {}, x)) s at
     → (text_at s at ≡ record { start = at + 1; length = length (text.enc x) }) × Lies (text.enc x) s (at + 1)
 unfolding text_at
-text_there s at z x o l = let t = sized8-there s z at text x o l in ((λ i. record { start = at + 1; length = t.0 i }), t.1)
+text_there s at z x o l = let t = sized8_there s z at text x o l in ((λ i. record { start = at + 1; length = t.0 i }), t.1)
 
 -- and it ends behind its encoding
 pub text_end_there : (s : List ℕ) (at : ℕ) → Bytes s → (x : text.Val) → (sized8 text).Ok (record {}) (record {}, x)
     → Lies ((sized8 text).enc (record {}, x)) s at → text_end s at ≡ at + length ((sized8 text).enc (record {}, x))
 unfolding text_end
 text_end_there s at z x o l =
-    let t = (sized8-there s z at text x o l).0 in
+    let t = (sized8_there s z at text x o l).0 in
     let n = length-append (bytes_of 1 (0 + length (text.enc x))) (text.enc x) in
     let k = bytes_length 1 (0 + length (text.enc x)) in
     omega arith

@@ -12,16 +12,16 @@ use Rattle.refusal.specs.Outputs.{no_value, number_in}
 use Rattle.telling.specs.Told.{Told, noted, told_in}
 
 module _ {A : Type 0} (f : A → List ℕ) (x : Outcome A) (l : List ℕ) (r : ℕ) where
-  pub told-refused : (k : ℕ) → x ≡ refused k → r ≡ k → Told f x l r l
-  told-refused k e i = record { number = i ∙ sym (ap number_in e); numbers = sym (ap (told_in f l) e) }
+  pub told_refused : (k : ℕ) → x ≡ refused k → r ≡ k → Told f x l r l
+  told_refused k e i = record { number = i ∙ sym (ap number_in e); numbers = sym (ap (told_in f l) e) }
 
   pub told_result : (a : A) (m : List ℕ) → x ≡ resulted a → r ≡ 0 → m ≡ map noted (f a) → Told f x l r m
   told_result a m e i h = record { number = i ∙ sym (ap number_in e); numbers = h ∙ sym (ap (told_in f l) e) }
 
 -- the same outcome, said otherwise
 module _ {A : Type 0} {f : A → List ℕ} {x y : Outcome A} {l : List ℕ} {r : ℕ} {m : List ℕ} where
-  pub told-as : x ≡ y → Told f x l r m → Told f y l r m
-  told-as e t = record { number = t.number ∙ ap number_in e; numbers = t.numbers ∙ ap (told_in f l) e }
+  pub told_as : x ≡ y → Told f x l r m → Told f y l r m
+  told_as e t = record { number = t.number ∙ ap number_in e; numbers = t.numbers ∙ ap (told_in f l) e }
 
 -- a number of 32 bits is told as it is
 as_picked : (t : Bool) (n : ℕ) → (t ≡ false → n ≡ no_value) → pick t n no_value ≡ n

@@ -11,7 +11,7 @@ use Rattle.bytes_at.specs.Walks.{fields_to, then, many, standing}
 use Rattle.bytes_at.proofs.WalkLaws.{to_is, then_inv, skipped}
 use Rattle.refusal.specs.Outcomes.{Outcome, refused, resulted, after}
 use Rattle.refusal.proofs.OutcomeLaws.{same_result, not_both}
-use Rattle.refusal.proofs.TestLaws.{passed-lt, either_way}
+use Rattle.refusal.proofs.TestLaws.{passed_lt, either_way}
 use Rattle.annex_c.specs.Codes.{Reading}
 use Rattle.format.specs.Formats.{walks, last_byte, times}
 use Rattle.format.proofs.FieldLaws.{fields_end}
@@ -24,7 +24,7 @@ use Rattle.segment.specs.Inner.{judged_text}
 use Rattle.segment.specs.Segment.{segment_text, title_text, description_text}
 use Rattle.segment.proofs.BitLaws.{length_bits}
 use Rattle.segment.proofs.TextLaws.{Fits, fits_count}
-use Rattle.segment.proofs.SegmentLaws.{coded-fits}
+use Rattle.segment.proofs.SegmentLaws.{coded_fits}
 use Rattle.strings.specs.Strings.{segment, string}
 use Rattle.text.specs.declared.segments.Way.{Way}
 use Rattle.text.specs.declared.segments.Way.TheVariants.{Plain, Utf16, Titles, Descriptions, Unread}
@@ -52,7 +52,7 @@ text_few x m f = by (judged_text 0 x) refl
 
 compressed_few : (read : ℕ → List ℕ → Reading) (s : List ℕ) → Few (8 * length s) (units_or_refusal (segment_text read s))
 unfolding segment_text
-compressed_few read s = rw (← length_bits s) (text_few (segment_text read s) (length (all_bits s)) (coded-fits read (length (all_bits s)) 0 (all_bits s)))
+compressed_few read s = rw (← length_bits s) (text_few (segment_text read s) (length (all_bits s)) (coded_fits read (length (all_bits s)) 0 (all_bits s)))
 
 utf16_few : (s : List ℕ) → Few (8 * length s) (utf16_units s)
 unfolding utf16_units
@@ -123,21 +123,21 @@ strings_forward s end (suc k) at b w =
     omega (arith, f, strings_forward s end k p.0 b p.1.1)
 
 module _ (s : List ℕ) (end at k b : ℕ) where
-  head-after : (c : ℕ) (w : Walk) → fields_to (24 ∷ 8 ∷ []) c end ≡ w → standing w ≡ resulted b → c ≤ b
+  head_after : (c : ℕ) (w : Walk) → fields_to (24 ∷ 8 ∷ []) c end ≡ w → standing w ≡ resulted b → c ≤ b
   unfolding standing
-  head-after c (Bad x) e q = not_both 9 b q
-  head-after c (To d) e q = omega (arith, fields_end 24 (8 ∷ []) 4 refl c end d e, same_result d b q)
+  head_after c (Bad x) e q = not_both 9 b q
+  head_after c (To d) e q = omega (arith, fields_end 24 (8 ∷ []) 4 refl c end d e, same_result d b q)
 
   walk_after : (w : Walk) → many (walks string s end) k (at + 1) ≡ w → standing (then w (λ c. fields_to (24 ∷ 8 ∷ []) c end)) ≡ resulted b → at ≤ b
   unfolding standing then
   walk_after (Bad x) e q = not_both 9 b q
   walk_after (To c) e q =
-      omega (arith, head-after c (fields_to (24 ∷ 8 ∷ []) c end) refl q, strings_forward s end k (at + 1) c e)
+      omega (arith, head_after c (fields_to (24 ∷ 8 ∷ []) c end) refl q, strings_forward s end k (at + 1) c e)
 
   -- a string that is found lies behind the field's beginning
-  pub string-after : string_at s end at k ≡ resulted b → at ≤ b
+  pub string_after : string_at s end at k ≡ resulted b → at ≤ b
   unfolding string_at
-  string-after q = walk_after (many (walks string s end) k (at + 1)) refl (passed-lt 13 k (string_count s end at) _ b q).1
+  string_after q = walk_after (many (walks string s end) k (at + 1)) refl (passed_lt 13 k (string_count s end at) _ b q).1
 
 module _ (s : List ℕ) (end at k : ℕ) where
   -- behind the head of the string, if there is one
@@ -150,17 +150,17 @@ module _ (s : List ℕ) (end at k : ℕ) where
       few_more (8 * (end - b)) (8 * (end - at)) (joined_units s end (byte_at s (b - 1)) b) (omega (arith, f, h)) (all_few s end (byte_at s (b - 1)) b f.1)
 
   -- past the strings before it
-  walk-few : (w : Walk) → many (walks string s end) k (at + 1) ≡ w
+  walk_few : (w : Walk) → many (walks string s end) k (at + 1) ≡ w
       → Few (8 * (end - at)) (after (standing (then w (λ b. fields_to (24 ∷ 8 ∷ []) b end))) (λ b. joined_units s end (byte_at s (b - 1)) b))
   unfolding after standing then
-  walk-few (Bad x) e = omega arith
-  walk-few (To c) e = head_few c (fields_to (24 ∷ 8 ∷ []) c end) (omega (arith, strings_forward s end k (at + 1) c e)) refl
+  walk_few (Bad x) e = omega arith
+  walk_few (To c) e = head_few c (fields_to (24 ∷ 8 ∷ []) c end) (omega (arith, strings_forward s end k (at + 1) c e)) refl
 
-  pub string-few : Few (8 * (end - at)) (string_units s end at k)
+  pub string_few : Few (8 * (end - at)) (string_units s end at k)
   unfolding string_units string_at after
-  string-few =
+  string_few =
       either_way (λ x. Few (8 * (end - at)) (after x (λ b. joined_units s end (byte_at s (b - 1)) b))) 13 _ _
-      (omega arith) (walk-few (many (walks string s end) k (at + 1)) refl)
+      (omega arith) (walk_few (many (walks string s end) k (at + 1)) refl)
 
-  pub few-units : (us : List ℕ) → string_units s end at k ≡ resulted us → length us ≤ 8 * (end - at)
-  few-units us e = subst (Few (8 * (end - at))) e string-few
+  pub few_units : (us : List ℕ) → string_units s end at k ≡ resulted us → length us ≤ 8 * (end - at)
+  few_units us e = subst (Few (8 * (end - at))) e string_few

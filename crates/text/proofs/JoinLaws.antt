@@ -73,24 +73,24 @@ joined_refused x y q e = rw e
 
 -- ---- one segment more
 module _ (told : ℕ → Outcome (List ℕ)) (s : List ℕ) (end : ℕ) where
-  of-step : (left at : ℕ) → 0 < left
+  of_step : (left at : ℕ) → 0 < left
       → joined_of told s end left at ≡ after (standing (walks segment s end at)) (λ b. joined (told at) (joined_of told s end (left - 1) b))
   unfolding joined_of
-  of-step zero at h = absurd (omega arith)
-  of-step (suc m) at h = rw sub-one
+  of_step zero at h = absurd (omega arith)
+  of_step (suc m) at h = rw sub-one
 
   module _ (left at : ℕ) where
     pub of_none : left ≡ 0 → joined_of told s end left at ≡ resulted []
     unfolding joined_of
     of_none e = rw e
 
-    pub of-bad : (x : ℕ) → 0 < left → walks segment s end at ≡ Bad x → joined_of told s end left at ≡ refused 9
+    pub of_bad : (x : ℕ) → 0 < left → walks segment s end at ≡ Bad x → joined_of told s end left at ≡ refused 9
     unfolding standing after
-    of-bad x h e = of-step left at h ∙ rw e
+    of_bad x h e = of_step left at h ∙ rw e
 
-    pub of-on : (b : ℕ) → 0 < left → walks segment s end at ≡ To b → joined_of told s end left at ≡ joined (told at) (joined_of told s end (left - 1) b)
+    pub of_on : (b : ℕ) → 0 < left → walks segment s end at ≡ To b → joined_of told s end left at ≡ joined (told at) (joined_of told s end (left - 1) b)
     unfolding standing after
-    of-on b h e = of-step left at h ∙ rw e
+    of_on b h e = of_step left at h ∙ rw e
 
 of_units : (s : List ℕ) (end m at : ℕ) → joined_of (segment_units s) s end m at ≡ joined_units s end m at
 unfolding joined_of joined_units
@@ -98,21 +98,21 @@ of_units s end zero at = refl
 of_units s end (suc m) at = λ i. after (standing (walks segment s end at)) (λ b. joined (segment_units s at) (of_units s end m b i))
 
 module _ (s : List ℕ) (end left at : ℕ) where
-  pub units-none : left ≡ 0 → joined_units s end left at ≡ resulted []
-  units-none e = sym (of_units s end left at) ∙ of_none (segment_units s) s end left at e
+  pub units_none : left ≡ 0 → joined_units s end left at ≡ resulted []
+  units_none e = sym (of_units s end left at) ∙ of_none (segment_units s) s end left at e
 
-  pub units-bad : (x : ℕ) → 0 < left → walks segment s end at ≡ Bad x → joined_units s end left at ≡ refused 9
-  units-bad x h e = sym (of_units s end left at) ∙ of-bad (segment_units s) s end left at x h e
+  pub units_bad : (x : ℕ) → 0 < left → walks segment s end at ≡ Bad x → joined_units s end left at ≡ refused 9
+  units_bad x h e = sym (of_units s end left at) ∙ of_bad (segment_units s) s end left at x h e
 
-  pub units-on : (b : ℕ) → 0 < left → walks segment s end at ≡ To b
+  pub units_on : (b : ℕ) → 0 < left → walks segment s end at ≡ To b
       → joined_units s end left at ≡ joined (segment_units s at) (joined_units s end (left - 1) b)
-  units-on b h e =
-      sym (of_units s end left at) ∙ of-on (segment_units s) s end left at b h e ∙ ap (joined (segment_units s at)) (of_units s end (left - 1) b)
+  units_on b h e =
+      sym (of_units s end left at) ∙ of_on (segment_units s) s end left at b h e ∙ ap (joined (segment_units s at)) (of_units s end (left - 1) b)
 
 -- ---- where no segment is compressed the plain bytes are all
 pub all_plain : (s : List ℕ) (end left at b : ℕ) → 0 < left → walks segment s end at ≡ To b → plain_units s at ≡ segment_units s at
     → joined_plain s end (left - 1) b ≡ joined_units s end (left - 1) b → joined_plain s end left at ≡ joined_units s end left at
-all_plain s end left at b h w e f = of-on (plain_units s) s end left at b h w ∙ (λ i. joined (e i) (f i)) ∙ sym (units-on s end left at b h w)
+all_plain s end left at b h w e f = of_on (plain_units s) s end left at b h w ∙ (λ i. joined (e i) (f i)) ∙ sym (units_on s end left at b h w)
 
 pub plain_wrote : {x y : Outcome (List ℕ)} {p : ℕ} {l : List ℕ} {r : Units} {e : List ℕ} → x ≡ y → WroteAll x p l r e → WroteAll y p l r e
 plain_wrote q w = rw q at w
@@ -141,9 +141,9 @@ wrote_few {z} {l} {n} {u} {e} k w q =
     omega (arith, v.few f.0 f.1.0, f.1.1)
 
 module _ {x : Outcome (List ℕ)} {l₀ : List ℕ} {m : ℕ} {y : Outcome (List ℕ)} {l : List ℕ} {left n : ℕ} (g : Going x l₀ m y l left n) where
-  pub going-refused : (p : ℕ) (r : Refusal) (e : List ℕ) → y ≡ refused (number_of r) → WroteAll x p l₀ (amounts.Refused r) e
+  pub going_refused : (p : ℕ) (r : Refusal) (e : List ℕ) → y ≡ refused (number_of r) → WroteAll x p l₀ (amounts.Refused r) e
   unfolding counted_from after
-  going-refused p r e q = record {
+  going_refused p r e q = record {
     answers = sym (ap (amount_of p) (from_refusal x (number_of r) (rw q at g.answers)) ∙ amount_refused p (number_of r));
     stores = λ us u. not_both (number_of r) (g.stores us u).0 (sym q ∙ (g.stores us u).1.0);
   }
@@ -159,10 +159,10 @@ module _ {x : Outcome (List ℕ)} {l₀ : List ℕ} {m : ℕ} {y : Outcome (List
   }
 
   module _ (z y' : Outcome (List ℕ)) (l' : List ℕ) (j : y ≡ joined z y') where
-    pub going-stop : (p : ℕ) (u : Number) (r : Refusal) → Wrote z l n u l' → u ≡ Refused r → WroteAll x p l₀ (amounts.Refused r) l'
-    going-stop p u r w q =
+    pub going_stop : (p : ℕ) (u : Number) (r : Refusal) → Wrote z l n u l' → u ≡ Refused r → WroteAll x p l₀ (amounts.Refused r) l'
+    going_stop p u r w q =
         let e : z ≡ refused (number_of r) = from_refusal z (number_of r) (rw q at w.answers) in
-        going-refused p r l' (j ∙ joined_refused z y' (number_of r) e)
+        going_refused p r l' (j ∙ joined_refused z y' (number_of r) e)
 
     pub going_next : (us : List ℕ) (k : ℕ) → 0 < left → z ≡ resulted us → k ≡ length us → length us ≤ 2040 → l' ≡ sets l n us
         → Going x l₀ m y' l' (left - 1) (n + k)

@@ -19,7 +19,7 @@ use Rattle.segment.specs.Segment.{segment_text}
 use Rattle.segment.specs.Inner as pair
 use Rattle.segment.proofs.BitLaws.{length_bits}
 use Rattle.segment.proofs.TextLaws.{Fits, answer_count, stored}
-use Rattle.segment.proofs.SegmentLaws.{coded-fits}
+use Rattle.segment.proofs.SegmentLaws.{coded_fits}
 use Rattle.text.specs.declared.answer.Amount.{Amount}
 use Rattle.text.specs.declared.answer.Units.{Units}
 use Rattle.text.specs.declared.answer.Units.TheVariants as amounts
@@ -34,7 +34,7 @@ use Rattle.refusal.proofs.OutputLaws.{counted_result, counted_refused, from_numb
 use Rattle.text.proofs.UnitLaws.{text_refusal, text_units_lem, wrote_units, wrote_refused}
 use Rattle.text.proofs.AmountLaws.{amount_refused, from_amount}
 use Rattle.text.proofs.FewLaws.{Few, segment_few}
-use Rattle.text.proofs.JoinLaws.{Going, going-refused, going_done, going_next, joined_refused}
+use Rattle.text.proofs.JoinLaws.{Going, going_refused, going_done, going_next, joined_refused}
 use Rattle.text.specs.Values.{joined}
 
 -- ---- one segment
@@ -85,7 +85,7 @@ module _ (read : ℕ → List ℕ → Reading) (s : List ℕ) (l e : List ℕ) (
     (o : pair.PairOutcome (segment_text read s) n l a e) where
   fits : Fits (length (all_bits s)) (segment_text read s)
   unfolding segment_text
-  fits = coded-fits read (length (all_bits s)) 0 (all_bits s)
+  fits = coded_fits read (length (all_bits s)) 0 (all_bits s)
 
   place : a < 4096 → a ≡ n + length (units (segment_text read s))
   place h = o.answers ∙ answer_count n (segment_text read s) (rw o.answers at h)
@@ -93,13 +93,13 @@ module _ (read : ℕ → List ℕ → Reading) (s : List ℕ) (l e : List ℕ) (
   pub once_after : a < 4096 → n ≤ a
   once_after h = omega (arith, place h)
 
-  pub once-text : a < 4096 → Once (units_or_refusal (segment_text read s)) l n (Value (a - n)) e
-  once-text h =
+  pub once_text : a < 4096 → Once (units_or_refusal (segment_text read s)) l n (Value (a - n)) e
+  once_text h =
       let d = well n 0 (segment_text read s) (rw o.answers at h) in
       once_units (units_or_refusal (segment_text read s)) l n (a - n) (units (segment_text read s)) e (text_units_lem 0 _ (segment_text read s) d) (omega (arith, place h)) o.stores
 
-  pub once-broken : (r : Refusal) → number_of r ≡ 11 → 4096 ≤ a → Once (units_or_refusal (segment_text read s)) l n (Refused r) e
-  once-broken r q h =
+  pub once_broken : (r : Refusal) → number_of r ≡ 11 → 4096 ≤ a → Once (units_or_refusal (segment_text read s)) l n (Refused r) e
+  once_broken r q h =
       let d = broken n 0 (length (all_bits s)) (segment_text read s) fits (omega (arith, length_bits s)) (rw o.answers at h) in
       once_refused (units_or_refusal (segment_text read s)) l n r e (text_refusal 0 11 (segment_text read s) d ∙ ap refused (sym q)) (ap length o.stores ∙ length-sets l n (units (segment_text read s)))
 
@@ -112,36 +112,36 @@ are_units n a e = ap units_of e
     units_of (amounts.Are b) = b.units
 
 module _ (s : List ℕ) (at : ℕ) {l : List ℕ} {n : ℕ} {u : Number} {e : List ℕ} where
-  pub once-few : (k : ℕ) → Once (segment_units s at) l n u e → u ≡ Value k → k ≤ 8 * (byte_at s (at + 2) + 3)
-  once-few k w q =
+  pub once_few : (k : ℕ) → Once (segment_units s at) l n u e → u ≡ Value k → k ≤ 8 * (byte_at s (at + 2) + 3)
+  once_few k w q =
       let v : Once (segment_units s at) l n (Value k) e = rw q at w in
       let f = from_number (segment_units s at) k v.answers in
       let b : length f.0 ≤ 8 * (byte_at s (at + 2) + 3) = subst (Few (8 * (byte_at s (at + 2) + 3))) f.1.0 (segment_few s at) in
       omega (arith, b, f.1.1)
 
 module _ {x : Outcome (List ℕ)} {l₀ : List ℕ} {m : ℕ} {y : Outcome (List ℕ)} {l : List ℕ} {left n : ℕ} (g : Going x l₀ m y l left n) where
-  pub onced-refused : (p : ℕ) (r : Refusal) → y ≡ refused (number_of r) → OnceAll x p l₀ (amounts.Refused r) l
-  onced-refused p r q = record {
-    wrote = going-refused g p r l q;
+  pub onced_refused : (p : ℕ) (r : Refusal) → y ≡ refused (number_of r) → OnceAll x p l₀ (amounts.Refused r) l
+  onced_refused p r q = record {
+    wrote = going_refused g p r l q;
     long = g.long;
     few = λ a v. let z : ◌≡◌ {A = ℕ} 0 1 = cc in absurd (omega arith);
   }
 
-  pub onced-done : (p : ℕ) → p ≡ 0 → n ≤ 2040 → y ≡ resulted [] → OnceAll x p l₀ (amounts.Are (record { units = n; replaced = 0 })) l
-  onced-done p none h q = record { wrote = going_done g p none q; long = g.long; few = λ a v. omega (arith, are_units n a v) }
+  pub onced_done : (p : ℕ) → p ≡ 0 → n ≤ 2040 → y ≡ resulted [] → OnceAll x p l₀ (amounts.Are (record { units = n; replaced = 0 })) l
+  onced_done p none h q = record { wrote = going_done g p none q; long = g.long; few = λ a v. omega (arith, are_units n a v) }
 
   module _ (z y' : Outcome (List ℕ)) (l' : List ℕ) (j : y ≡ joined z y') (u : Number) (w : Once z l n u l') where
-    pub onced-stop : (p : ℕ) (r : Refusal) → u ≡ Refused r → OnceAll x p l₀ (amounts.Refused r) l'
-    onced-stop p r q =
+    pub onced_stop : (p : ℕ) (r : Refusal) → u ≡ Refused r → OnceAll x p l₀ (amounts.Refused r) l'
+    onced_stop p r q =
         let e : z ≡ refused (number_of r) = from_refusal z (number_of r) (rw q at w.answers) in
         record {
-          wrote = going-refused g p r l' (j ∙ joined_refused z y' (number_of r) e);
+          wrote = going_refused g p r l' (j ∙ joined_refused z y' (number_of r) e);
           long = w.long ∙ g.long;
           few = λ a v. let z : ◌≡◌ {A = ℕ} 0 1 = cc in absurd (omega arith);
         }
 
-    pub onced-on : (k : ℕ) → 0 < left → u ≡ Value k → k ≤ 2040 → Going x l₀ m y' l' (left - 1) (n + k)
-    onced-on k h q b =
+    pub onced_on : (k : ℕ) → 0 < left → u ≡ Value k → k ≤ 2040 → Going x l₀ m y' l' (left - 1) (n + k)
+    onced_on k h q b =
         let v : Once z l n (Value k) l' = rw q at w in
         let f = from_number z k v.answers in
         going_next g z y' l' j f.0 k h f.1.0 f.1.1 (omega (arith, f.1.1)) (v.stores f.0 f.1.0)
@@ -156,8 +156,8 @@ onced_missing x p l r q = record {
 -- ---- the units out of the array
 -- one segment, whose units go from the array to place n of the output
 module _ {x : Outcome (List ℕ)} {o₀ o : List ℕ} {u : Number} (w : Once x o₀ 0 u o) (l : List ℕ) (n : ℕ) where
-  pub through-units : (k : ℕ) (e : List ℕ) → length o₀ ≡ 2040 → Few 2040 x → u ≡ Value k → e ≡ sets l n (take k o) → Wrote x l n (Value k) e
-  through-units k e h few q c =
+  pub through_units : (k : ℕ) (e : List ℕ) → length o₀ ≡ 2040 → Few 2040 x → u ≡ Value k → e ≡ sets l n (take k o) → Wrote x l n (Value k) e
+  through_units k e h few q c =
       let v : Once x o₀ 0 (Value k) o = rw q at w in
       let f = from_number x k v.answers in
       let m : length f.0 ≤ 2040 = subst (Few 2040) f.1.0 few in
@@ -165,15 +165,15 @@ module _ {x : Outcome (List ℕ)} {o₀ o : List ℕ} {u : Number} (w : Once x o
       ap (take k) (v.stores f.0 f.1.0) ∙ ap (λ (i : ℕ). take i (sets o₀ 0 f.0)) f.1.1 ∙ stored o₀ f.0 (omega (arith, h)) in
       wrote_units x l n k f.0 e f.1.0 f.1.1 m (c ∙ ap (sets l n) t)
 
-  pub through-few : (k : ℕ) → Few 2040 x → u ≡ Value k → k ≤ 2040
-  through-few k few q =
+  pub through_few : (k : ℕ) → Few 2040 x → u ≡ Value k → k ≤ 2040
+  through_few k few q =
       let v : Once x o₀ 0 (Value k) o = rw q at w in
       let f = from_number x k v.answers in
       let m : length f.0 ≤ 2040 = subst (Few 2040) f.1.0 few in
       omega (arith, m, f.1.1)
 
-  pub through-refused : (r : Refusal) → u ≡ Refused r → Wrote x l n u l
-  through-refused r q =
+  pub through_refused : (r : Refusal) → u ≡ Refused r → Wrote x l n u l
+  through_refused r q =
       rw q (wrote_refused x l n r l (from_refusal x (number_of r) (rw q at w.answers)) refl)
 
 pub copied_all : (x : Outcome (List ℕ)) (p : ℕ) (l o₀ o e : List ℕ) (a : Amount) (r : Units) → OnceAll x p o₀ r o → r ≡ amounts.Are a → length o ≡ 2040

@@ -11,7 +11,7 @@ use Rattle.refusal.specs.Numbers.{number_of}
 use Rattle.refusal.specs.Outcomes.{Outcome, refused, resulted, after}
 use Rattle.refusal.specs.declared.Refusal.{Refusal}
 use Rattle.refusal.proofs.OutcomeLaws.{same_result, not_both}
-use Rattle.refusal.proofs.TestLaws.{lets-eq, stops-eq}
+use Rattle.refusal.proofs.TestLaws.{lets_eq, stops_eq}
 use Rattle.segment.specs.declared.Judged.TheVariants.{Refused, Units}
 use Rattle.segment.specs.Text.{Text, done, unit}
 use Rattle.segment.specs.Inner.{judged_text, units}
@@ -43,11 +43,11 @@ pairs_at (a ∷ b ∷ s) (suc i) h =
 
 pub utf16_even : (s : List ℕ) → length s % 2 ≡ 0 → utf16_units s ≡ resulted (pairs s)
 unfolding utf16_units
-utf16_even s h = sym (lets-eq 11 (length s % 2) 0 (resulted (pairs s)) h refl)
+utf16_even s h = sym (lets_eq 11 (length s % 2) 0 (resulted (pairs s)) h refl)
 
 pub utf16_odd : (s : List ℕ) → (length s % 2 ≡ 0 → ⊥) → utf16_units s ≡ refused 11
 unfolding utf16_units
-utf16_odd s h = sym (stops-eq 11 (length s % 2) 0 (resulted (pairs s)) h refl)
+utf16_odd s h = sym (stops_eq 11 (length s % 2) 0 (resulted (pairs s)) h refl)
 
 -- ---- what is answered and stored
 pub wrote_units : (x : Outcome (List ℕ)) (l : List ℕ) (n k : ℕ) (us e : List ℕ) → x ≡ resulted us → k ≡ length us → length us ≤ 2040
@@ -100,21 +100,21 @@ text_refusal n k (unit u x) e = ap (λ (o : Outcome (List ℕ)). after o (λ us.
 
 -- ---- plain bytes, one or two a unit
 module _ (wide : Bool) (s : List ℕ) (i : ℕ) (h : i < length (plain_pairs wide s)) where
-  pub pair-there : wide ≡ true → 2 * i + 1 < length s
+  pub pair_there : wide ≡ true → 2 * i + 1 < length s
   unfolding plain_pairs
-  pair-there e = omega (arith, pairs_length s, rw e at h)
+  pair_there e = omega (arith, pairs_length s, rw e at h)
 
-  pub pair-at : wide ≡ true → 256 * get_or s (2 * i) 0 + get_or s (2 * i + 1) 0 ≡ get_or (plain_pairs wide s) i 0
+  pub pair_at : wide ≡ true → 256 * get_or s (2 * i) 0 + get_or s (2 * i + 1) 0 ≡ get_or (plain_pairs wide s) i 0
   unfolding plain_pairs
-  pair-at e = rw e (sym (pairs_at s i (pair-there e)))
+  pair_at e = rw e (sym (pairs_at s i (pair_there e)))
 
-  pub byte-there : wide ≡ false → i < length s
+  pub byte_there : wide ≡ false → i < length s
   unfolding plain_pairs
-  byte-there e = rw e at h
+  byte_there e = rw e at h
 
-  pub byte-at : wide ≡ false → get_or s i 0 ≡ get_or (plain_pairs wide s) i 0
+  pub byte_at_lem : wide ≡ false → get_or s i 0 ≡ get_or (plain_pairs wide s) i 0
   unfolding plain_pairs
-  byte-at e = rw e
+  byte_at_lem e = rw e
 
 -- ---- a segment where it stands
 pub few_bytes : (s p : List ℕ) (at n : ℕ) → p ≡ take n (drop at s) → n < 256 → length p ≤ 255

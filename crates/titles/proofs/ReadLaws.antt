@@ -26,7 +26,7 @@ use Rattle.text.specs.Answers.{units_outcome}
 use Rattle.text.specs.Strings.{string_units, string_replaced}
 use Rattle.text.specs.Inner.{OnceAll}
 use Rattle.text.proofs.AmountLaws.{from_amount, from_replaced, from_no_amount}
-use Rattle.text.proofs.FewLaws.{Few, string-few}
+use Rattle.text.proofs.FewLaws.{Few, string_few}
 use Rattle.eit.specs.declared.event.Title.{Title}
 use Rattle.eit.specs.declared.event.Title.TheVariants.{None, NoStrings, Text}
 use Rattle.eit.specs.Titles.{title_of}
@@ -38,15 +38,15 @@ use Rattle.titles.specs.Inner.{unit_count, row_of, told, Read}
 
 -- ---- a text by the answer and the array
 module _ (x : Outcome (List ℕ)) (p : ℕ) (l e : List ℕ) (r : Units) (o : OnceAll x p l r e) (h : length l ≡ 2040) where
-  pub read-refused : (k : Refusal) → r ≡ amounts.Refused k → Read (text_told p x) (found.Refused k) e
+  pub read_refused : (k : Refusal) → r ≡ amounts.Refused k → Read (text_told p x) (found.Refused k) e
   unfolding text_told told
-  read-refused k q =
+  read_refused k q =
       let v = from_no_amount p x (number_of k) (sym (ap units_outcome q) ∙ o.wrote.answers) in
       record { tells = rw v; few = omega arith; rare = omega arith; long = o.long ∙ h }
 
-  pub read-units : (a : Amount) → r ≡ amounts.Are a → p < 256 → Read (text_told p x) (found.Text a) e
+  pub read_units : (a : Amount) → r ≡ amounts.Are a → p < 256 → Read (text_told p x) (found.Text a) e
   unfolding text_told told
-  read-units a q g =
+  read_units a q g =
       let n : ℕ = a.units in
       let j = sym (ap units_outcome q) ∙ o.wrote.answers in
       let f = from_number x n (from_amount p x a j) in
@@ -73,12 +73,12 @@ module _ {t : TitleTold} {r : Found} {o : List ℕ} (i : Read t r o) where
   row_by n (found.Refused k) h = refl
   row_by n (found.Text a) h = rw (length-take-le a.units o h)
 
-  units-by : (r : Found) → take (unit_count r) o ≡ units_told (told r o)
+  units_by_lem : (r : Found) → take (unit_count r) o ≡ units_told (told r o)
   unfolding told units_told
-  units-by found.NoTitle = refl
-  units-by found.NoStrings = refl
-  units-by (found.Refused k) = refl
-  units-by (found.Text a) = refl
+  units_by_lem found.NoTitle = refl
+  units_by_lem found.NoStrings = refl
+  units_by_lem (found.Refused k) = refl
+  units_by_lem (found.Text a) = refl
 
   fits : unit_count r ≤ length o
   fits = omega (arith, i.few, i.long)
@@ -90,13 +90,13 @@ module _ {t : TitleTold} {r : Found} {o : List ℕ} (i : Read t r o) where
   row_told n = rw (← i.tells) (row_by n r fits)
 
   pub units_told_lem : take (unit_count r) o ≡ units_told t
-  units_told_lem = rw (← i.tells) (units-by r)
+  units_told_lem = rw (← i.tells) (units_by_lem r)
 
 -- ---- a title has at most 255 bytes, and at most eight units for each of them
 module _ (P : Title → Type 0) (s : List ℕ) (start n : ℕ) (p : P None) (q : P NoStrings) (r : P (Text (record { start = start; length = n }))) where
-  any-sort : P (title_of s start n)
+  any_sort : P (title_of s start n)
   unfolding title_of if_eq
-  any-sort = by (eqb n 0) (eqb n 1) (eqb (byte_at s start) 0)
+  any_sort = by (eqb n 0) (eqb n 1) (eqb (byte_at s start) 0)
     where
       by : (t u v : Bool) → P (pick t None (pick u (pick v NoStrings (Text (record { start = start; length = n }))) (Text (record { start = start; length = n }))))
       by true u v = p
@@ -111,7 +111,7 @@ Short (Text p) = p.length < 256
 
 short_title : (s : List ℕ) (a : ℕ) → Bytes s → Short (title_at s a)
 unfolding title_at title_part text_at
-short_title s a z = any-sort Short s _ _ (record {}) (record {}) (z _)
+short_title s a z = any_sort Short s _ _ (record {}) (record {}) (z _)
 
 pub title_short : (s : List ℕ) (a : ℕ) (t : Title) (p : Part) → Bytes s → t ≡ title_at s a → t ≡ Text p → p.length < 256
 title_short s a t p z e q = subst Short (sym e ∙ q) (short_title s a z)
@@ -125,12 +125,12 @@ part_few : (s : List ℕ) (p : Part) → length (units_told (told_of s (Text p))
 unfolding told_of
 part_few s p =
     let f = bytes_in s p in
-    omega (arith, text_few (8 * (length f - 0)) (string_replaced f (length f) 0 0) (string_units f (length f) 0 0) (string-few f (length f) 0 0), length-take p.length (drop p.start s))
+    omega (arith, text_few (8 * (length f - 0)) (string_replaced f (length f) 0 0) (string_units f (length f) 0 0) (string_few f (length f) 0 0), length-take p.length (drop p.start s))
 
 pub title_few : (s : List ℕ) (a : ℕ) → length (units_told (title_told s a)) ≤ 8 * (title_part s a).length
 unfolding title_told title_at told_of units_told
 title_few s a =
-    any-sort (λ t. length (units_told (told_of s t)) ≤ 8 * (title_part s a).length) s _ _ (omega arith) (omega arith) (part_few s (title_part s a))
+    any_sort (λ t. length (units_told (told_of s t)) ≤ 8 * (title_part s a).length) s _ _ (omega arith) (omega arith) (part_few s (title_part s a))
 
 -- and its event ends behind it
 pub title_inside : (s : List ℕ) (a : ℕ) → a + (title_part s a).length ≤ event_end s a

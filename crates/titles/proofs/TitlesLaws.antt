@@ -7,9 +7,9 @@ use native.Mathlib.Omega.{arith}
 use lib.ListN.{length, length-append}
 use lib.Seq.{sets, length-sets}
 use Rattle.refusal.specs.Outcomes.{Outcome, refused, resulted}
-use Rattle.refusal.proofs.TestLaws.{lets-le, stops-le}
+use Rattle.refusal.proofs.TestLaws.{lets_le, stops_le}
 use Rattle.kind.specs.declared.Kind.TheVariants.{Eit}
-use Rattle.kind.specs.Kinds.{limits_of, only_of}
+use Rattle.kind.specs.Kinds.{limitsOf, onlyOf}
 use Rattle.row.proofs.RowLaws.{sets_append}
 use Rattle.eit.specs.Fields.{event_row, event_end}
 use Rattle.eit.specs.Inner.{Events}
@@ -67,8 +67,8 @@ module _ {s : List ℕ} {total : ℕ} {o : List ℕ} {a n k : ℕ} (left : Count
         leads = omega (arith, left.leads, count_left s k a h);
       })
 
-  pub count-done : k ≡ 0 → n ≡ total
-  count-done e = omega (arith, left.leads, ap length (none_left s k a e))
+  pub count_done : k ≡ 0 → n ≡ total
+  count_done e = omega (arith, left.leads, ap length (none_left s k a e))
 
 -- ---- stored, one after the other
 row_four : (n : ℕ) (t : TitleTold) → length (title_row n t) ≡ 4
@@ -116,14 +116,14 @@ module _ {s : List ℕ} {total : ℕ} {rows₀ rows₁ units₀ units₁ o rows 
   pub row_room : (rows' : List ℕ) → 0 < k → rows' ≡ sets rows p (event_row s a) → p + 8 + 4 ≤ length rows'
   row_room rows' h e = omega (arith, left.room, left.same_rows, ap length e ∙ length-sets rows p (event_row s a))
 
-  pub units-room : 0 < k → total ≤ length units₀ → n + added s a ≤ length units
-  units-room h r = omega (arith, count_room left.count h, left.same_units, r)
+  pub units_room : 0 < k → total ≤ length units₀ → n + added s a ≤ length units
+  units_room h r = omega (arith, count_room left.count h, left.same_units, r)
 
-  pub titles-step : (e rows' rows'' units' : List ℕ) (b m : ℕ) → 0 < k → rows' ≡ sets rows p (event_row s a)
+  pub titles_step : (e rows' rows'' units' : List ℕ) (b m : ℕ) → 0 < k → rows' ≡ sets rows p (event_row s a)
       → rows'' ≡ sets rows' (p + 8) (title_row n (title_told s a)) → units' ≡ sets units n (units_told (title_told s a))
       → b ≡ event_end s a → m ≡ n + added s a → length e ≡ 2040
       → TitlesLeft s total rows₀ rows₁ units₀ units₁ e rows'' units' b (p + 12) m (k - 1)
-  titles-step e rows' rows'' units' b m h event four put next count long =
+  titles_step e rows' rows'' units' b m h event four put next count long =
       let q : rows'' ≡ sets (sets rows p (event_row s a)) (p + 8) (title_row n (title_told s a)) = rw event at four in
       rw count
       (record {
@@ -135,11 +135,11 @@ module _ {s : List ℕ} {total : ℕ} {rows₀ rows₁ units₀ units₁ o rows 
         units_lead = rw (put, next) (units_more s units n k a h ∙ left.units_lead);
       })
 
-  pub rows-done : k ≡ 0 → rows ≡ rows₁
-  rows-done e = sym (rows_none s rows p n k a e) ∙ left.rows_lead
+  pub rows_done : k ≡ 0 → rows ≡ rows₁
+  rows_done e = sym (rows_none s rows p n k a e) ∙ left.rows_lead
 
-  pub units-done : k ≡ 0 → units ≡ units₁
-  units-done e = ap (sets units n) (sym (none_left s k a e)) ∙ left.units_lead
+  pub units_done : k ≡ 0 → units ≡ units₁
+  units_done e = ap (sets units n) (sym (none_left s k a e)) ∙ left.units_lead
 
 -- ---- whether both lists have room, and what they are then
 module _ (s rows units : List ℕ) (k from : ℕ) (counted : k ≡ event_count s) (begins : from ≡ first_event) where
@@ -148,38 +148,38 @@ module _ (s rows units : List ℕ) (k from : ℕ) (counted : k ≡ event_count s
       (x ≡ titles_in s (length rows) (length units))
       × ((rows' ≡ with_title_rows s (titles_in s (length rows) (length units)) rows) × (units' ≡ with_units s (titles_in s (length rows) (length units)) units))
 
-  refused-ends : refused 12 ≡ titles_in s (length rows) (length units) → Ends (refused 12) rows units
+  refused_ends : refused 12 ≡ titles_in s (length rows) (length units) → Ends (refused 12) rows units
   unfolding with_title_rows with_units
-  refused-ends e = (e, (rw (← e), rw (← e)))
+  refused_ends e = (e, (rw (← e), rw (← e)))
 
   pub no_rows : length rows < 12 * k → Ends (refused 12) rows units
   unfolding titles_in room_for_titles
-  no_rows h = refused-ends (stops-le 12 (12 * event_count s) (length rows) _ {r = refused 12} (rw counted at h) refl)
+  no_rows h = refused_ends (stops_le 12 (12 * event_count s) (length rows) _ {r = refused 12} (rw counted at h) refl)
 
   pub no_units : 12 * k ≤ length rows → length units < length (units_from s k from) → Ends (refused 12) rows units
   unfolding titles_in room_for_titles
   no_units h l =
-      refused-ends
-      (lets-le 12 (12 * event_count s) (length rows) _ {r = refused 12} (rw counted at h)
-      (stops-le 12 _ (length units) _ {r = refused 12} (rw (counted, begins) at l) refl))
+      refused_ends
+      (lets_le 12 (12 * event_count s) (length rows) _ {r = refused 12} (rw counted at h)
+      (stops_le 12 _ (length units) _ {r = refused 12} (rw (counted, begins) at l) refl))
 
-  pub both-room : (rows' units' : List ℕ) (n : ℕ) → 12 * k ≤ length rows → length (units_from s k from) ≤ length units
+  pub both_room : (rows' units' : List ℕ) (n : ℕ) → 12 * k ≤ length rows → length (units_from s k from) ≤ length units
       → n ≡ length (units_from s k from) → rows' ≡ sets rows 0 (title_rows_from s 0 k from) → units' ≡ sets units 0 (units_from s k from)
       → Ends (resulted (record { events = k; units = n })) rows' units'
   unfolding titles_in room_for_titles with_title_rows with_units
-  both-room rows' units' n h l count put-rows put-units =
+  both_room rows' units' n h l count put-rows put-units =
       let c : Counts = record { events = event_count s; units = length (units_from s (event_count s) first_event) } in
       let e : resulted c ≡ titles_in s (length rows) (length units) =
-      lets-le 12 (12 * event_count s) (length rows) _ {r = resulted c} (rw counted at h)
-      (lets-le 12 (length (units_from s (event_count s) first_event)) (length units) (resulted c) {r = resulted c} (rw (counted, begins) at l) refl) in
+      lets_le 12 (12 * event_count s) (length rows) _ {r = resulted c} (rw counted at h)
+      (lets_le 12 (length (units_from s (event_count s) first_event)) (length units) (resulted c) {r = resulted c} (rw (counted, begins) at l) refl) in
       (rw (count, counted, begins) e, (rw (← e, ← counted, ← begins) put-rows, rw (← e, ← counted, ← begins) put-units))
 
 -- ---- the events of a section that was judged
-pub judged_events : (s : List ℕ) (h : Header) → section_by (only_of Eit) s ≡ resulted h → Events s (event_count s) first_event
+pub judged_events : (s : List ℕ) (h : Header) → section_by (onlyOf Eit) s ≡ resulted h → Events s (event_count s) first_event
 unfolding body_of
 judged_events s h judged =
     let p = section_sound Eit s h judged in
-    let b = body_events s (length s - 4) (limits_of Eit).body p.1.0 p.1.1 in
+    let b = body_events s (length s - 4) (limitsOf Eit).body p.1.0 p.1.1 in
     record {
       end = length s - 4;
       stands = b.0;

@@ -11,7 +11,7 @@ use Rattle.logic.proofs.LoopLaws.{and_left, and_right, and_i}
 use Rattle.refusal.specs.Outcomes.{resulted}
 use Rattle.refusal.proofs.OutcomeLaws.{same_result, went_on}
 use Rattle.kind.specs.declared.Kind.TheVariants.{Ett}
-use Rattle.kind.specs.Kinds.{limits_of, only_of}
+use Rattle.kind.specs.Kinds.{limitsOf, onlyOf}
 use Rattle.format.specs.Lawful.{Lies}
 use Rattle.format.specs.Repeats.{Bytes}
 use Rattle.format.specs.Formats.{walks_all}
@@ -25,16 +25,16 @@ use Rattle.eit.specs.Given.{stands}
 use Rattle.eit.proofs.GivenLaws.{stands_yes}
 use Rattle.ett.specs.Format.{etm_head, EttFields, ett_format}
 use Rattle.ett.specs.Values.{fields_for}
-use Rattle.ett.proofs.FieldLaws.{as-text-lies}
+use Rattle.ett.proofs.FieldLaws.{as_text_lies}
 use Rattle.section.specs.declared.write.Given.{Given}
 use Rattle.section.specs.Sections.{section_by}
 use Rattle.section.specs.Encoding.{Section, encode, WellFormed, OnesHeader, header_of}
-use Rattle.section.proofs.EncodingLaws.{body-lies, body-ends, accepts}
+use Rattle.section.proofs.EncodingLaws.{body_lies, body_ends, accepts}
 use Rattle.reading.specs.Etts.{fields_of}
 use Rattle.section_laws.proofs.TableLaws.{ett_reads_lem}
 use Rattle.writing.specs.Written.{allowed, ett_bytes, ett_written}
 use Rattle.writing_laws.specs.RoundTrips.{given_of, EncodingOf, EttWriter, GivesEtt, WritesEtt, ett_text_place, ReadsBackEtt, RewritesEtt}
-use Rattle.writing_laws.proofs.TestLaws.{passes, fitted, fits, given, well-formed, header_passes, numbers-pass, largest-holds, header_read_lem, header_back}
+use Rattle.writing_laws.proofs.TestLaws.{passes, fitted, fits, given, well_formed, header_passes, numbers_pass, largest_holds, header_read_lem, header_back}
 
 -- ---- the text
 not_nothing : (t : List ℕ) → 0 < length t → (x : text.Val) → text.Ok (record {}) x → t ≡ text.enc x
@@ -82,7 +82,7 @@ module _ (g : Given) (etm : ℕ) (t : List ℕ) (room : ℕ) (z : Bytes t) (s : 
       let y = body_for etm x.0 in
       let same : ett_bytes g etm t ≡ encode (given Ett g y) = ap (ett_bytes g etm) x.1.1 ∙ same_bytes g etm x.0 in
       let n = ap length same in
-      let o = well-formed Ett g y (and_left _ _ a.0) b.0 (omega (arith, smallest etm x.0 x.1.0)) (omega arith)
+      let o = well_formed Ett g y (and_left _ _ a.0) b.0 (omega (arith, smallest etm x.0 x.1.0)) (omega arith)
       ((ltb-true _ _ (and_right _ _ a.0), record {}), x.1.0) in
       ((given Ett g y, (record { good = o; header = refl; id = refl; text = sym x.1.1 }, d.0 ∙ same)), omega (arith, ap length d.0))
 
@@ -92,9 +92,9 @@ unfolding ett_written
 writes g etm x room o m =
     let y = body_for etm x in
     passes 23 _ _ _ (and_i _ _ (header_passes Ett g y o) (lt-ltb _ _ o.body.0.0))
-    (passes 8 _ _ _ (numbers-pass Ett g y o)
+    (passes 8 _ _ _ (numbers_pass Ett g y o)
     (passes 9 _ _ _ (and_i _ _ (lt-ltb _ _ (structure_full x o.body.1)) (structure_stands x o.body.1))
-    (ap (allowed Ett room) (same_bytes g etm x) ∙ fits Ett room _ (largest-holds Ett g y o) m)))
+    (ap (allowed Ett room) (same_bytes g etm x) ∙ fits Ett room _ (largest_holds Ett g y o) m)))
 
 pub writes_ett : WritesEtt ett_written
 writes_ett g etm t room z s = (
@@ -112,13 +112,13 @@ writes_ett g etm t room z s = (
 
 -- ---- so it reads as given, and what was read is written as it was
 module _ (y : Section Ett) (o : WellFormed Ett y) where
-  text-lies : Lies (structure.enc y.body.text) (encode y) 13
+  text_lies : Lies (structure.enc y.body.text) (encode y) 13
   unfolding text as_text
-  text-lies = (as-text-lies (encode y) (limits_of Ett).body (length (encode y) - 4) y.body o.body (body-lies Ett y o) (body-ends Ett y o)).1
+  text_lies = (as_text_lies (encode y) (limitsOf Ett).body (length (encode y) - 4) y.body o.body (body_lies Ett y o) (body_ends Ett y o)).1
 
 module _ (write : EttWriter) (w : WritesEtt write) where
-  pub reads-back-ett : ReadsBackEtt write
-  reads-back-ett g etm t room z s e =
+  pub reads_back_ett : ReadsBackEtt write
+  reads_back_ett g etm t room z s e =
       let u = ((w g etm t room z s).0 e).0 in
       let y = u.0 in
       let v = u.1.0 in
@@ -126,26 +126,26 @@ module _ (write : EttWriter) (w : WritesEtt write) where
       let n = v.id in
       let l = v.text in
       record {
-        header = ap (section_by (only_of Ett)) u.1.1 ∙ accepts Ett y v.good ∙ ap resulted (header_read_lem Ett g y h);
+        header = ap (section_by (onlyOf Ett)) u.1.1 ∙ accepts Ett y v.good ∙ ap resulted (header_read_lem Ett g y h);
         fields = ap fields_of u.1.1 ∙ ett_reads_lem.tells y v.good
             ∙ (λ i. resulted (record { extension = (h i).extension; etm_id = n i; text = ett_text_place (l i) }));
-        text = ap (λ s. bytes_in s (ett_text_place t)) u.1.1 ∙ subst (λ t. bytes_in (encode y) (ett_text_place t) ≡ t) l (text-lies y v.good);
+        text = ap (λ s. bytes_in s (ett_text_place t)) u.1.1 ∙ subst (λ t. bytes_in (encode y) (ett_text_place t) ≡ t) l (text_lies y v.good);
       }
 
-  pub ett-again : (y : Section Ett) → WellFormed Ett y → OnesHeader y → (room : ℕ) → length (encode y) ≤ room
+  pub ett_again : (y : Section Ett) → WellFormed Ett y → OnesHeader y → (room : ℕ) → length (encode y) ≤ room
       → write (given_of (header_of y)) y.body.etm (structure.enc y.body.text) room ≡ resulted (encode y)
-  ett-again y o a room m =
+  ett_again y o a room m =
       (w (given_of (header_of y)) y.body.etm (structure.enc y.body.text) room ((structure.law (record {})).bytes y.body.text o.body.1) (encode y)).1
       ((y, (record { good = o; header = header_back Ett y a; id = refl; text = refl }, refl)), m)
 
-  pub rewrites-ett : RewritesEtt write
-  rewrites-ett s h f q r u room m =
+  pub rewrites_ett : RewritesEtt write
+  rewrites_ett s h f q r u room m =
       let y = u.0 in
       let o = u.1.0.0 in
       let e = u.1.1 in
       let n = ap length e in
-      let p : h ≡ header_of y = same_result h (header_of y) (sym q ∙ ap (section_by (only_of Ett)) e ∙ accepts Ett y o) in
-      let t : f ≡ fields_for y.header.extension (limits_of Ett).body y.body = same_result f _ (sym r ∙ ap fields_of e ∙ ett_reads_lem.tells y o) in
+      let p : h ≡ header_of y = same_result h (header_of y) (sym q ∙ ap (section_by (onlyOf Ett)) e ∙ accepts Ett y o) in
+      let t : f ≡ fields_for y.header.extension (limitsOf Ett).body y.body = same_result f _ (sym r ∙ ap fields_of e ∙ ett_reads_lem.tells y o) in
       (λ i. write (given_of (p i)) (t i).etm_id (bytes_in (e i) (t i).text) room)
-      ∙ ap (λ l. write (given_of (header_of y)) y.body.etm l room) (text-lies y o) ∙ ett-again y o u.1.0.1 room (omega arith)
+      ∙ ap (λ l. write (given_of (header_of y)) y.body.etm l room) (text_lies y o) ∙ ett_again y o u.1.0.1 room (omega arith)
       ∙ ap resulted (sym e)

@@ -15,8 +15,8 @@ use Rattle.section_laws.specs.Samples.{bare, full}
 use Rattle.section_laws.proofs.SampleLaws.{bare_good, full_events_ones, full_good, full_ones}
 use Rattle.section_laws.proofs.TableLaws.{eit_reads_lem, ett_reads_lem}
 use Rattle.writing_laws.specs.RoundTrips.{EttWithOnes, EitWithOnes, WritesEtt, RewritesEtt, WritesEit, RewritesEit}
-use Rattle.writing_laws.proofs.EttLaws.{rewrites-ett}
-use Rattle.writing_laws.proofs.AgainLaws.{rewrites-eit}
+use Rattle.writing_laws.proofs.EttLaws.{rewrites_ett}
+use Rattle.writing_laws.proofs.AgainLaws.{rewrites_eit}
 
 apart : (k : Kind) (c : Outcome (List ℕ)) → c ≡ resulted (encode (bare k)) → c ≡ resulted (encode (full k)) → ⊥
 apart k c a b =
@@ -35,7 +35,7 @@ no_rewrites_ett c r =
     (rewritten_ett c r (full Ett) (full_good Ett, full_ones Ett))
 
 pub no_writes_ett : (c : Outcome (List ℕ)) → WritesEtt (λ g etm t room. c) → ⊥
-no_writes_ett c w = no_rewrites_ett c (rewrites-ett _ w)
+no_writes_ett c w = no_rewrites_ett c (rewrites_ett _ w)
 
 -- ---- an EIT
 rewritten_eit : (c : Outcome (List ℕ)) → RewritesEit (λ g count rows bytes room. c) → (y : Section Eit) → EitWithOnes y → c ≡ resulted (encode y)
@@ -47,4 +47,4 @@ no_rewrites_eit c r =
     (rewritten_eit c r (full Eit) (full_good Eit, (full_ones Eit, full_events_ones)))
 
 pub no_writes_eit : (c : Outcome (List ℕ)) → WritesEit (λ g count rows bytes room. c) → ⊥
-no_writes_eit c w = no_rewrites_eit c (rewrites-eit _ w)
+no_writes_eit c w = no_rewrites_eit c (rewrites_eit _ w)

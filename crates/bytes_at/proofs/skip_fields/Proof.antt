@@ -1,7 +1,7 @@
 -- `skip_fields` meets its contract: field by field, the first that does not fit, or past them all.
 use mathlib.Core.Path.{◌≡◌}
 use Prim.Native.Nat.{ℕ, ◌+◌, ◌*◌, ◌/◌}
-use Rattle.bytes_at.proofs.WalkLaws.{bits-past, bits-on, bits_done}
+use Rattle.bytes_at.proofs.WalkLaws.{bits_past, bits_on, bits_done}
 use Rattle.bytes_at.specs.Walks.{fields_to}
 use native.Mathlib.Omega.{arith}
 use borrow.Author.Rules.{rules}
@@ -14,7 +14,7 @@ whole at a b c d w x y z p q r s = omega arith
 
 returns : tie.Need-returns
 unfolding fields_to
-returns c = bits-past _ _ _ _ _ (omega arith) (omega arith)
+returns c = bits_past _ _ _ _ _ (omega arith) (omega arith)
 
 wide-requires : tie.Need-wide-requires
 wide-requires c κs = search rules
@@ -24,7 +24,7 @@ add-if2 c = search rules
 
 returns-2 : tie.Need-returns-2
 unfolding fields_to
-returns-2 c = bits-past _ _ _ _ _ (omega arith) (omega arith)
+returns-2 c = bits_past _ _ _ _ _ (omega arith) (omega arith)
 
 wide-requires-2 : tie.Need-wide-requires-2
 wide-requires-2 c κs = search rules
@@ -40,7 +40,7 @@ add-t16 c = search rules
 
 returns-3 : tie.Need-returns-3
 unfolding fields_to
-returns-3 c = bits-on _ _ _ _ (omega arith) (bits-past _ _ _ _ _ (omega arith) (omega arith))
+returns-3 c = bits_on _ _ _ _ (omega arith) (bits_past _ _ _ _ _ (omega arith) (omega arith))
 
 wide-requires-3 : tie.Need-wide-requires-3
 wide-requires-3 c κs = search rules
@@ -56,7 +56,7 @@ add-t18 c = search rules
 
 returns-4 : tie.Need-returns-4
 unfolding fields_to
-returns-4 c = bits-on _ _ _ _ (omega arith) (bits-on _ _ _ _ (omega arith) (bits-past _ _ _ _ _ (omega arith) (omega arith)))
+returns-4 c = bits_on _ _ _ _ (omega arith) (bits_on _ _ _ _ (omega arith) (bits_past _ _ _ _ _ (omega arith) (omega arith)))
 
 wide-requires-4 : tie.Need-wide-requires-4
 wide-requires-4 c κs = search rules
@@ -72,7 +72,7 @@ add-t20 c = search rules
 
 returns-5 : tie.Need-returns-5
 unfolding fields_to
-returns-5 c = bits-on _ _ _ _ (omega arith) (bits-on _ _ _ _ (omega arith) (bits-on _ _ _ _ (omega arith) (bits-past _ _ _ _ _ (omega arith) (omega arith))))
+returns-5 c = bits_on _ _ _ _ (omega arith) (bits_on _ _ _ _ (omega arith) (bits_on _ _ _ _ (omega arith) (bits_past _ _ _ _ _ (omega arith) (omega arith))))
 
 add-t13 : tie.Need-overflow-add-t13
 add-t13 c = search rules
@@ -80,10 +80,10 @@ add-t13 c = search rules
 returns-6 : tie.Need-returns-6
 unfolding fields_to
 returns-6 c = let w = c.before.before.before in
-    bits-on _ _ _ _ (omega arith)
-    (bits-on _ _ _ _ (omega arith)
-    (bits-on _ _ _ _ (omega arith)
-    (bits-on _ _ _ _ (omega arith)
+    bits_on _ _ _ _ (omega arith)
+    (bits_on _ _ _ _ (omega arith)
+    (bits_on _ _ _ _ (omega arith)
+    (bits_on _ _ _ _ (omega arith)
     (bits_done _ _ _
     (whole _ _ _ _ _ _ _ _ _ w.before.before.before.before.wide.ensures.0 w.before.before.wide2.ensures.0 w.wide3.ensures.0 c.before.wide4.ensures.0)))))
 

@@ -3,7 +3,7 @@ use Prim.Native.Nat.{ℕ, ◌-◌, ◌<◌}
 use mathlib.Core.Path.{sym, ◌∙◌}
 use native.Mathlib.Omega.{arith}
 use borrow.Author.Rules.{rules}
-use Rattle.descriptor.proofs.StopLaws.{stop-none, stop-here, stop-rest, descriptor_forward}
+use Rattle.descriptor.proofs.StopLaws.{stop_none, stop_here, stop_rest, descriptor_forward}
 use borrow.Fn.Kinds.{In}
 use borrow.Fn.PlainCycle.{Measures, is, falls, and}
 use Rattle.descriptor.proofs.first_and_rest.Reads as first-and-rest
@@ -36,7 +36,7 @@ abbrev first-and-rest-calls : ℕ → first-and-rest-lts.Claims
 first-and-rest-calls t = (one-descriptor-reads.Asked, one-descriptor-reads.Learnt, first-and-rest-below t, first-and-rest.Post)
 
 first-and-rest-returns : (t : ℕ) → first-and-rest-lts.Need-returns (first-and-rest-calls t) (first-and-rest-at t) first-and-rest.Post
-first-and-rest-returns t c = λ f h. stop-none _ _ _ _ c.if1.true f
+first-and-rest-returns t c = λ f h. stop_none _ _ _ _ c.if1.true f
 
 first-and-rest-one-descriptor-requires : (t : ℕ) → first-and-rest-lts.Need-one-descriptor-requires (first-and-rest-calls t) (first-and-rest-at t) first-and-rest.Post
 first-and-rest-one-descriptor-requires t c κs = tt
@@ -58,12 +58,12 @@ first-and-rest-returns-2 t c =
     let d = c.before.before.before.before.before in
     let e = sym d.one-descriptor.ensures ∙ c.before.before.before.e.given.1 in
     let l = descriptor_forward _ _ _ _ _ e in
-    stop-rest _ _ _ _ _ d.before.before.if1.false e (omega (arith, l)) c.first-and-rest.ensures
+    stop_rest _ _ _ _ _ d.before.before.if1.false e (omega (arith, l)) c.first-and-rest.ensures
 
 first-and-rest-returns-3 : (t : ℕ) → first-and-rest-lts.Need-returns-3 (first-and-rest-calls t) (first-and-rest-at t) first-and-rest.Post
 first-and-rest-returns-3 t c =
     let d = c.before.before.before in
-    stop-here _ _ _ _ d.before.before.if1.false (sym d.one-descriptor.ensures ∙ c.before.x.given.1)
+    stop_here _ _ _ _ d.before.before.if1.false (sym d.one-descriptor.ensures ∙ c.before.x.given.1)
 
 pub +first-and-rest-spec : {M : Type 1} → statement M
 +first-and-rest-spec = close μ-first-and-rest λ t. first-and-rest-lts.spec (first-and-rest-calls t) (first-and-rest-at t)

@@ -3,17 +3,17 @@ use mathlib.Core.Path.{refl}
 use native.Mathlib.Omega.{arith}
 use Rattle.bytes_at.specs.Walks.{fields_to}
 use Rattle.format.proofs.RepeatLaws.{run_fits, run_past}
-use Rattle.bytes_at.proofs.WalkLaws.{many-none, many-bad, bits-past}
+use Rattle.bytes_at.proofs.WalkLaws.{many_none, many_bad, bits_past}
 use borrow.Author.Rules.{rules}
 use Rattle.descriptor.proofs.dimensions.Statement.{statement}
 use Rattle.descriptor.proofs.dimensions.Tie as tie
 
 returns : tie.Need-returns
-returns c = many-none _ _ _ (omega arith)
+returns c = many_none _ _ _ (omega arith)
 
 returns-2 : tie.Need-returns-2
 unfolding fields_to
-returns-2 c = many-bad _ _ _ _ _ (omega arith) (bits-past _ _ _ _ _ (omega arith) (omega arith)) refl
+returns-2 c = many_bad _ _ _ _ _ (omega arith) (bits_past _ _ _ _ _ (omega arith) (omega arith)) refl
 
 mul-t8 : tie.Need-overflow-mul-t8
 mul-t8 c = search rules

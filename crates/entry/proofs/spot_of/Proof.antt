@@ -3,7 +3,7 @@ use mathlib.Core.Path.{sym, ap, ◌∙◌}
 use Rattle.refusal.specs.Outcomes.{after}
 use Rattle.section.specs.Answers.{head_outcome}
 use Rattle.entry.specs.Entries.{spot_of}
-use Rattle.entry.proofs.EntryLaws.{judged-begins}
+use Rattle.entry.proofs.EntryLaws.{judged_begins}
 use borrow.Author.Rules.{rules}
 use Rattle.entry.proofs.spot_of.Statement.{statement}
 use Rattle.entry.proofs.spot_of.Tie as tie
@@ -25,7 +25,7 @@ spot-in-requires c κs =
     let j = c.before.before.before in
     let a = j.before.before.before.args in
     let e = rw j.before.table_of.ensures at j.judge-kind.ensures in
-    judged-begins a.entry a.s.now _ (sym e ∙ ap head_outcome c.before.-h.given.1)
+    judged_begins a.entry a.s.now _ (sym e ∙ ap head_outcome c.before.-h.given.1)
 
 returns : tie.Need-returns
 unfolding spot_of after

@@ -9,7 +9,7 @@ use Rattle.bytes_at.specs.declared.Walk.TheVariants.{To, Bad}
 use Rattle.logic.specs.Choices.{pick}
 use Rattle.bytes_at.specs.Fields.{byte_at}
 use Rattle.bytes_at.specs.Walks.{skip_to, bits_to, fields_to}
-use Rattle.bytes_at.proofs.WalkLaws.{to_is, never, skipped, skip_fits, bits-on, bits_done}
+use Rattle.bytes_at.proofs.WalkLaws.{to_is, never, skipped, skip_fits, bits_on, bits_done}
 use Rattle.format.specs.Lawful.{Walker, Lies, Lawful, total}
 use Rattle.format.specs.Repeats.{Bytes}
 
@@ -81,7 +81,7 @@ bits_begin n ns p end b e = ⊎_elim (λ t. (leb-true (p + n) (8 * end) t.0, t.1
 bits_fit : (ns : List ℕ) (p end : ℕ) → p + total ns ≤ 8 * end → To ((p + total ns) / 8) ≡ bits_to ns p end
 bits_fit [] p end h = bits_done p end _ (ap (λ n. n / 8) (omega arith))
 bits_fit (n ∷ ns) p end h =
-    bits-on n ns p end (omega arith) (ap (λ m. To (m / 8)) (omega arith) ∙ bits_fit ns (p + n) end (omega arith))
+    bits_on n ns p end (omega arith) (ap (λ m. To (m / 8)) (omega arith) ∙ bits_fit ns (p + n) end (omega arith))
 
 bits_took : (ns : List ℕ) (p end b : ℕ) → p ≤ 8 * end → bits_to ns p end ≡ To b
     → (b ≡ (p + total ns) / 8) × (p + total ns ≤ 8 * end)
@@ -96,15 +96,15 @@ module _ (ns : List ℕ) (k : ℕ) (whole : total ns ≡ 8 * k) (at end : ℕ) w
   unfolding fields_to
   fields_fit h = sym (bits_fit ns (8 * at) end (omega arith)) ∙ ap To (omega arith)
 
-  pub fields-took : (b : ℕ) → at ≤ end → fields_to ns at end ≡ To b → (b ≡ at + k) × (b ≤ end)
+  pub fields_took : (b : ℕ) → at ≤ end → fields_to ns at end ≡ To b → (b ≡ at + k) × (b ≤ end)
   unfolding fields_to
-  fields-took b h e = let t = bits_took ns (8 * at) end b (omega arith) e in (omega arith, omega arith)
+  fields_took b h e = let t = bits_took ns (8 * at) end b (omega arith) e in (omega arith, omega arith)
 
 -- ---- bytes that are taken as they are
 module _ (k : ℕ) (W : Walker) (fit : (s : List ℕ) (end at : ℕ) → at + k ≤ end → W s end at ≡ To (at + k))
     (took : (s : List ℕ) (end at e : ℕ) → at ≤ end → W s end at ≡ To e → (e ≡ at + k) × (e ≤ end)) where
-  bytes-law : Lawful {X = List ℕ} W (λ x. (length x ≡ k) × Bytes x) (λ x. x)
-  bytes-law = record {
+  bytes_law : Lawful {X = List ℕ} W (λ x. (length x ≡ k) × Bytes x) (λ x. x)
+  bytes_law = record {
     sound = λ s end at x o l h. rw o.0 (fit s end at (omega arith));
     complete = λ s end at e h m z w.
         let a = took s end at e h w in
@@ -118,9 +118,9 @@ module _ (k : ℕ) (W : Walker) (fit : (s : List ℕ) (end at : ℕ) → at + k 
 pub fields_law : (ns : List ℕ) (k : ℕ) → total ns ≡ 8 * k
     → Lawful {X = List ℕ} (λ s end at. fields_to ns at end) (λ x. (length x ≡ k) × Bytes x) (λ x. x)
 fields_law ns k whole =
-    bytes-law k _ (λ s end at. fields_fit ns k whole at end) (λ s end at. fields-took ns k whole at end)
+    bytes_law k _ (λ s end at. fields_fit ns k whole at end) (λ s end at. fields_took ns k whole at end)
 
 pub raw_law : (back n : ℕ)
     → Lawful {X = List ℕ} (λ s end at. skip_to back at n end) (λ x. (length x ≡ n) × Bytes x) (λ x. x)
 raw_law back n =
-    bytes-law n _ (λ s end at h. sym (skip_fits back at n end h)) (λ s end at e h. skipped back at n end e)
+    bytes_law n _ (λ s end at h. sym (skip_fits back at n end h)) (λ s end at e h. skipped back at n end e)

@@ -12,8 +12,8 @@ use Rattle.format.specs.Laws.OfBytes.{pick_inv, same_front, after, bytes_append,
 
 -- ---- n bytes that a format fills
 module _ {X : Type 0} {F : Walker} {Ok : X → Type 0} {enc : X → List ℕ} (back n : ℕ) (f : Fills F Ok enc) where
-  pub filled-law : Lawful {X = X} (λ s end at. then (skip_to back at n end) (λ e. F s e at)) (λ x. (length (enc x) ≡ n) × Ok x) enc
-  filled-law = record {
+  pub filled_law : Lawful {X = X} (λ s end at. then (skip_to back at n end) (λ e. F s e at)) (λ x. (length (enc x) ≡ n) × Ok x) enc
+  filled_law = record {
     sound = λ s end at x o l h.
         then_to _ _ (at + n) _ (sym (skip_fits back at n end (omega arith)))
         (f.sound s (at + n) at x o.1 l (omega arith) ∙ ap To (omega arith));
@@ -34,28 +34,28 @@ module _ {X : Type 0} {F : Walker} {Ok : X → Type 0} {enc : X → List ℕ} (b
 
 -- ---- a format that tells where it ends, and nothing after it
 module _ {X : Type 0} {A : Walker} {Ok : X → Type 0} {enc : X → List ℕ} (a : Lawful A Ok enc) where
-  exact-whole : (s : List ℕ) (end at e : ℕ) → then (A s end at) (ends end) ≡ To e → (A s end at ≡ To end) × (e ≡ end)
-  exact-whole s end at e w =
+  exact_whole : (s : List ℕ) (end at e : ℕ) → then (A s end at) (ends end) ≡ To e → (A s end at ≡ To end) × (e ≡ end)
+  exact_whole s end at e w =
       let p = then_inv _ _ e w in
       let t = ended end p.0 e p.1.1 in
       (p.1.0 ∙ ap To t.0, t.1)
 
-  pub exact-law : Fills {X = X} (λ s end at. then (A s end at) (ends end)) Ok enc
-  exact-law = record {
+  pub exact_law : Fills {X = X} (λ s end at. then (A s end at) (ends end)) Ok enc
+  exact_law = record {
     sound = λ s end at x o l h.
         then_to _ _ (at + length (enc x)) _ (a.sound s end at x o l (omega arith)) (ends_at end _ (omega arith));
-    complete = λ s end at h m z w. a.complete s end at end h m z (exact-whole s end at end w).0;
+    complete = λ s end at h m z w. a.complete s end at end h m z (exact_whole s end at end w).0;
     unique = λ x y o r e. a.unique x y [] [] o r (ap (λ l. l ++ []) e);
-    whole = λ s end at e w. (exact-whole s end at e w).1;
+    whole = λ s end at e w. (exact_whole s end at e w).1;
     bytes = a.bytes;
   }
 
 -- ---- a format that tells where it ends, and one that takes the rest of the container
 module _ {X Y : Type 0} {A B : Walker} {OkA : X → Type 0} {OkB : Y → Type 0} {encA : X → List ℕ} {encB : Y → List ℕ}
     (a : Lawful A OkA encA) (b : Fills B OkB encB) where
-  pub before-law : Fills {X = X × Y} (λ s end at. then (A s end at) (B s end))
+  pub before_law : Fills {X = X × Y} (λ s end at. then (A s end at) (B s end))
       (λ x. OkA x.0 × OkB x.1) (λ x. encA x.0 ++ encB x.1)
-  before-law = record {
+  before_law = record {
     sound = λ s end at x o l h.
         let j = length-append (encA x.0) (encB x.1) in
         let i = lies_split (encA x.0) (encB x.1) s at l in
@@ -86,8 +86,8 @@ module _ {X Y : Type 0} {A B : Walker} {OkA : X → Type 0} {OkB : Y → Type 0}
 -- ---- the same bytes and walk, and other values that stand for the old ones one to one
 module _ {X Y : Type 0} {F : Walker} {Ok : X → Type 0} {enc : X → List ℕ} (f : Fills F Ok enc) (to : Y → X) (from : X → Y)
     (a : (x : X) → to (from x) ≡ x) (b : (y : Y) → from (to y) ≡ y) where
-  pub under-law : Fills {X = Y} F (λ y. Ok (to y)) (λ y. enc (to y))
-  under-law = record {
+  pub under_law : Fills {X = Y} F (λ y. Ok (to y)) (λ y. enc (to y))
+  under_law = record {
     sound = λ s end at y o l h. f.sound s end at (to y) o l h;
     complete = λ s end at h m z w.
         let u = f.complete s end at h m z w in
@@ -112,36 +112,36 @@ any_law = record {
 -- ---- nothing, or a format none of whose values is empty
 module _ {X : Type 0} {F : Walker} {Ok : X → Type 0} {enc : X → List ℕ} (f : Fills F Ok enc)
     (full : (x : X) → Ok x → 0 < length (enc x)) where
-  opt-sound : (s : List ℕ) (end at : ℕ) (x : Option X) → OkOpt Ok x → Lies (enc_opt enc x) s at → end ≡ at + length (enc_opt enc x)
+  opt_sound : (s : List ℕ) (end at : ℕ) (x : Option X) → OkOpt Ok x → Lies (enc_opt enc x) s at → end ≡ at + length (enc_opt enc x)
       → pick (eqb at end) (To at) (F s end at) ≡ To end
-  opt-sound s end at none o l h = rw (eq-eqb at end (omega arith)) (ap To (omega arith))
-  opt-sound s end at (some x) o l h = rw (ne_eqb at end (λ z. omega (arith, full x o))) (f.sound s end at x o l h)
+  opt_sound s end at none o l h = rw (eq-eqb at end (omega arith)) (ap To (omega arith))
+  opt_sound s end at (some x) o l h = rw (ne_eqb at end (λ z. omega (arith, full x o))) (f.sound s end at x o l h)
 
-  opt-complete : (s : List ℕ) (end at : ℕ) → at ≤ end → end ≤ length s → Bytes s → pick (eqb at end) (To at) (F s end at) ≡ To end
+  opt_complete : (s : List ℕ) (end at : ℕ) → at ≤ end → end ≤ length s → Bytes s → pick (eqb at end) (To at) (F s end at) ≡ To end
       → (x : Option X) × (OkOpt Ok x × (Lies (enc_opt enc x) s at × (end ≡ at + length (enc_opt enc x))))
-  opt-complete s end at h m z w = ⊎_elim
+  opt_complete s end at h m z w = ⊎_elim
       (λ t. let v = eqb-true at end t.0 in (none, (record {}, (refl, omega arith))))
       (λ t. let u = f.complete s end at h m z t.1 in (some u.0, u.1))
       (pick_inv (eqb at end) (To at) (F s end at) (To end) w)
 
-  opt-unique : (x y : Option X) → OkOpt Ok x → OkOpt Ok y → enc_opt enc x ≡ enc_opt enc y → x ≡ y
-  opt-unique none none o r e = refl
-  opt-unique none (some y) o r e = absurd (omega (arith, ap length e, full y r))
-  opt-unique (some x) none o r e = absurd (omega (arith, ap length e, full x o))
-  opt-unique (some x) (some y) o r e = ap some (f.unique x y o r e)
+  opt_unique : (x y : Option X) → OkOpt Ok x → OkOpt Ok y → enc_opt enc x ≡ enc_opt enc y → x ≡ y
+  opt_unique none none o r e = refl
+  opt_unique none (some y) o r e = absurd (omega (arith, ap length e, full y r))
+  opt_unique (some x) none o r e = absurd (omega (arith, ap length e, full x o))
+  opt_unique (some x) (some y) o r e = ap some (f.unique x y o r e)
 
-  opt-whole : (s : List ℕ) (end at e : ℕ) → pick (eqb at end) (To at) (F s end at) ≡ To e → e ≡ end
-  opt-whole s end at e w = ⊎_elim
+  opt_whole : (s : List ℕ) (end at e : ℕ) → pick (eqb at end) (To at) (F s end at) ≡ To e → e ≡ end
+  opt_whole s end at e w = ⊎_elim
       (λ t. to_is at e t.1 ∙ eqb-true at end t.0)
       (λ t. f.whole s end at e t.1)
       (pick_inv (eqb at end) (To at) (F s end at) (To e) w)
 
-  opt-bytes : (x : Option X) → OkOpt Ok x → Bytes (enc_opt enc x)
-  opt-bytes none o = λ i. omega arith
-  opt-bytes (some x) o = f.bytes x o
+  opt_bytes : (x : Option X) → OkOpt Ok x → Bytes (enc_opt enc x)
+  opt_bytes none o = λ i. omega arith
+  opt_bytes (some x) o = f.bytes x o
 
-  pub opt-law : Fills {X = Option X} (λ s end at. pick (eqb at end) (To at) (F s end at)) (OkOpt Ok) (enc_opt enc)
-  opt-law = record { sound = opt-sound; complete = opt-complete; unique = opt-unique; whole = opt-whole; bytes = opt-bytes }
+  pub opt_law : Fills {X = Option X} (λ s end at. pick (eqb at end) (To at) (F s end at)) (OkOpt Ok) (enc_opt enc)
+  opt_law = record { sound = opt_sound; complete = opt_complete; unique = opt_unique; whole = opt_whole; bytes = opt_bytes }
 
 -- ---- one format or another, by a test on what is told
 differ : {A : Type 0} {t : Bool} → t ≡ true → t ≡ false → A
@@ -149,31 +149,31 @@ differ e f = let z : ◌≡◌ {A = ℕ} 0 1 = cc in absurd (omega arith)
 
 module _ {X Y : Type 0} {A B : Walker} {OkA : X → Type 0} {OkB : Y → Type 0} {encA : X → List ℕ} {encB : Y → List ℕ}
     (t : Bool) (a : Fills A OkA encA) (b : Fills B OkB encB) where
-  sum-sound : (s : List ℕ) (end at : ℕ) (x : X ⊎ Y) → OkSum t OkA OkB x → Lies (enc_sum encA encB x) s at
+  sum_sound : (s : List ℕ) (end at : ℕ) (x : X ⊎ Y) → OkSum t OkA OkB x → Lies (enc_sum encA encB x) s at
       → end ≡ at + length (enc_sum encA encB x) → pick t (A s end at) (B s end at) ≡ To end
-  sum-sound s end at (inl x) o l h = rw o.0 (a.sound s end at x o.1 l h)
-  sum-sound s end at (inr x) o l h = rw o.0 (b.sound s end at x o.1 l h)
+  sum_sound s end at (inl x) o l h = rw o.0 (a.sound s end at x o.1 l h)
+  sum_sound s end at (inr x) o l h = rw o.0 (b.sound s end at x o.1 l h)
 
-  sum-complete : (s : List ℕ) (end at : ℕ) → at ≤ end → end ≤ length s → Bytes s → pick t (A s end at) (B s end at) ≡ To end
+  sum_complete : (s : List ℕ) (end at : ℕ) → at ≤ end → end ≤ length s → Bytes s → pick t (A s end at) (B s end at) ≡ To end
       → (x : X ⊎ Y) × (OkSum t OkA OkB x × (Lies (enc_sum encA encB x) s at × (end ≡ at + length (enc_sum encA encB x))))
-  sum-complete s end at h m z w = ⊎_elim
+  sum_complete s end at h m z w = ⊎_elim
       (λ g. let u = a.complete s end at h m z g.1 in (inl u.0, ((g.0, u.1.0), u.1.1)))
       (λ g. let u = b.complete s end at h m z g.1 in (inr u.0, ((g.0, u.1.0), u.1.1)))
       (pick_inv t (A s end at) (B s end at) (To end) w)
 
-  sum-unique : (x y : X ⊎ Y) → OkSum t OkA OkB x → OkSum t OkA OkB y → enc_sum encA encB x ≡ enc_sum encA encB y → x ≡ y
-  sum-unique (inl x) (inl y) o r e = ap inl (a.unique x y o.1 r.1 e)
-  sum-unique (inl x) (inr y) o r e = differ o.0 r.0
-  sum-unique (inr x) (inl y) o r e = differ r.0 o.0
-  sum-unique (inr x) (inr y) o r e = ap inr (b.unique x y o.1 r.1 e)
+  sum_unique : (x y : X ⊎ Y) → OkSum t OkA OkB x → OkSum t OkA OkB y → enc_sum encA encB x ≡ enc_sum encA encB y → x ≡ y
+  sum_unique (inl x) (inl y) o r e = ap inl (a.unique x y o.1 r.1 e)
+  sum_unique (inl x) (inr y) o r e = differ o.0 r.0
+  sum_unique (inr x) (inl y) o r e = differ r.0 o.0
+  sum_unique (inr x) (inr y) o r e = ap inr (b.unique x y o.1 r.1 e)
 
-  sum-whole : (s : List ℕ) (end at e : ℕ) → pick t (A s end at) (B s end at) ≡ To e → e ≡ end
-  sum-whole s end at e w = ⊎_elim (λ g. a.whole s end at e g.1) (λ g. b.whole s end at e g.1)
+  sum_whole : (s : List ℕ) (end at e : ℕ) → pick t (A s end at) (B s end at) ≡ To e → e ≡ end
+  sum_whole s end at e w = ⊎_elim (λ g. a.whole s end at e g.1) (λ g. b.whole s end at e g.1)
       (pick_inv t (A s end at) (B s end at) (To e) w)
 
-  sum-bytes : (x : X ⊎ Y) → OkSum t OkA OkB x → Bytes (enc_sum encA encB x)
-  sum-bytes (inl x) o = a.bytes x o.1
-  sum-bytes (inr x) o = b.bytes x o.1
+  sum_bytes : (x : X ⊎ Y) → OkSum t OkA OkB x → Bytes (enc_sum encA encB x)
+  sum_bytes (inl x) o = a.bytes x o.1
+  sum_bytes (inr x) o = b.bytes x o.1
 
-  pub choice-law : Fills {X = X ⊎ Y} (λ s end at. pick t (A s end at) (B s end at)) (OkSum t OkA OkB) (enc_sum encA encB)
-  choice-law = record { sound = sum-sound; complete = sum-complete; unique = sum-unique; whole = sum-whole; bytes = sum-bytes }
+  pub choice_law : Fills {X = X ⊎ Y} (λ s end at. pick t (A s end at) (B s end at)) (OkSum t OkA OkB) (enc_sum encA encB)
+  choice_law = record { sound = sum_sound; complete = sum_complete; unique = sum_unique; whole = sum_whole; bytes = sum_bytes }

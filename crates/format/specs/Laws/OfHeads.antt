@@ -7,7 +7,7 @@ use Rattle.bytes_at.proofs.WalkLaws.{then_to, then_inv}
 use Rattle.format.specs.Lawful.{Walker, Lies, Lawful, total}
 use Rattle.format.specs.Repeats.{Bytes}
 use Rattle.format.specs.Laws.OfBytes.{bytes_append, same_front, after, lies_at, lies_join, lies_split}
-use Rattle.format.specs.Laws.OfBytes.{part_bytes, part_length, part_lies, fields_fit, fields-took}
+use Rattle.format.specs.Laws.OfBytes.{part_bytes, part_length, part_lies, fields_fit, fields_took}
 
 pair_is : {X Y : Type 0} (x y : X × Y) → x.0 ≡ y.0 → x.1 ≡ y.1 → x ≡ y
 pair_is x y e f = λ i. (e i, f i)
@@ -15,9 +15,9 @@ pair_is x y e f = λ i. (e i, f i)
 -- ---- one after the other
 module _ {X Y : Type 0} {A B : Walker} {OkA : X → Type 0} {OkB : Y → Type 0} {encA : X → List ℕ} {encB : Y → List ℕ}
     (a : Lawful A OkA encA) (b : Lawful B OkB encB) where
-  pub seq-law : Lawful {X = X × Y} (λ s end at. then (A s end at) (B s end))
+  pub seq_law : Lawful {X = X × Y} (λ s end at. then (A s end at) (B s end))
       (λ x. OkA x.0 × OkB x.1) (λ x. encA x.0 ++ encB x.1)
-  seq-law = record {
+  seq_law = record {
     sound = λ s end at x o l h.
         let j = length-append (encA x.0) (encB x.1) in
         let i = lies_split (encA x.0) (encB x.1) s at l in
@@ -55,9 +55,9 @@ module _ {X Y : Type 0} {A B : Walker} {OkA : X → Type 0} {OkB : Y → Type 0}
 module _ {C X : Type 0} {B : C → Walker} {Ok : C → X → Type 0} {enc : X → List ℕ} (ns : List ℕ) (k : ℕ) (whole : total ns ≡ 8 * k)
     (c : List ℕ → ℕ → C) (same : (s : List ℕ) (at : ℕ) (h : List ℕ) → length h ≡ k → Lies h s at → c s (at + k) ≡ c h k)
     (body : (n : C) → Lawful (B n) (Ok n) enc) where
-  pub head-law : Lawful {X = List ℕ × X} (λ s end at. then (fields_to ns at end) (λ b. B (c s b) s end b))
+  pub head_law : Lawful {X = List ℕ × X} (λ s end at. then (fields_to ns at end) (λ b. B (c s b) s end b))
       (λ x. ((length x.0 ≡ k) × Bytes x.0) × Ok (c x.0 k) x.1) (λ x. x.0 ++ enc x.1)
-  head-law = record {
+  head_law = record {
     sound = λ s end at x o l h.
         let j = length-append x.0 (enc x.1) in
         let i = lies_split x.0 (enc x.1) s at l in
@@ -67,7 +67,7 @@ module _ {C X : Type 0} {B : C → Walker} {Ok : C → X → Type 0} {enc : X �
         then_to _ _ (at + k) _ (fields_fit ns k whole at end (omega arith)) (rw r (b ∙ ap To (omega arith)));
     complete = λ s end at e h m z w.
         let p = then_inv _ _ e w in
-        let t = fields-took ns k whole at end p.0 h p.1.0 in
+        let t = fields_took ns k whole at end p.0 h p.1.0 in
         let hl = part_length s k at (omega arith) in
         let li = part_lies s k at (omega arith) in
         let r = same s at (take k (drop at s)) hl li in
@@ -90,7 +90,7 @@ module _ {C X : Type 0} {B : C → Walker} {Ok : C → X → Type 0} {enc : X �
         pair_is x y f.0 ((body (c y.0 k)).unique x.1 y.1 p q o2 r.1 f.1);
     within = λ s end at e h w.
         let p = then_inv _ _ e w in
-        let t = fields-took ns k whole at end p.0 h p.1.0 in
+        let t = fields_took ns k whole at end p.0 h p.1.0 in
         let i = (body (c s p.0)).within s end p.0 e t.1 p.1.1 in
         (omega arith, i.1);
     bytes = λ x o. bytes_append x.0 (enc x.1) o.0.1 ((body (c x.0 k)).bytes x.1 o.1);
@@ -100,8 +100,8 @@ module _ {C X : Type 0} {B : C → Walker} {Ok : C → X → Type 0} {enc : X �
 module _ {X Y : Type 0} {W : Walker} {Ok : X → Type 0} {enc : X → List ℕ} {OkY : Y → Type 0} (a : Lawful W Ok enc) (to : Y → X)
     (good : (y : Y) → OkY y → Ok (to y)) (onto : (x : X) → Ok x → (y : Y) × (OkY y × (to y ≡ x)))
     (inj : (y z : Y) → OkY y → OkY z → to y ≡ to z → y ≡ z) where
-  pub via-law : Lawful {X = Y} W OkY (λ y. enc (to y))
-  via-law = record {
+  pub via_law : Lawful {X = Y} W OkY (λ y. enc (to y))
+  via_law = record {
     sound = λ s end at y o l h. a.sound s end at (to y) (good y o) l h;
     complete = λ s end at e h m z w.
         let u = a.complete s end at e h m z w in

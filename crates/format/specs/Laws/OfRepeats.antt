@@ -18,37 +18,37 @@ use Rattle.format.specs.Laws.OfBytes.{bytes_append, pick_inv, after, lies_at, li
 
 -- ---- as often as is told
 module _ {X : Type 0} {P : Walker} {Ok : X → Type 0} {enc : X → List ℕ} (a : Lawful P Ok enc) where
-  many-sound : (n : ℕ) (s : List ℕ) (end at : ℕ) (xs : List X) → length xs ≡ n → All Ok xs → Lies (encs enc xs) s at
+  many_sound : (n : ℕ) (s : List ℕ) (end at : ℕ) (xs : List X) → length xs ≡ n → All Ok xs → Lies (encs enc xs) s at
       → at + length (encs enc xs) ≤ end → many (P s end) n at ≡ To (at + length (encs enc xs))
   unfolding many
-  many-sound zero s end at [] o g l h = ap To (omega arith)
-  many-sound zero s end at (x ∷ xs) o g l h = absurd (omega arith)
-  many-sound (suc n) s end at [] o g l h = absurd (omega arith)
-  many-sound (suc n) s end at (x ∷ xs) o g l h =
+  many_sound zero s end at [] o g l h = ap To (omega arith)
+  many_sound zero s end at (x ∷ xs) o g l h = absurd (omega arith)
+  many_sound (suc n) s end at [] o g l h = absurd (omega arith)
+  many_sound (suc n) s end at (x ∷ xs) o g l h =
       let j = length-append (enc x) (encs enc xs) in
       let i = lies_split (enc x) (encs enc xs) s at l in
       let u = a.sound s end at x g.0 i.0 (omega arith) in
-      let v = many-sound n s end (at + length (enc x)) xs (omega arith) g.1 i.1 (omega arith) in
+      let v = many_sound n s end (at + length (enc x)) xs (omega arith) g.1 i.1 (omega arith) in
       then_to _ _ _ _ u (v ∙ ap To (omega arith))
 
-  many-within : (n : ℕ) (s : List ℕ) (end at e : ℕ) → at ≤ end → many (P s end) n at ≡ To e → (at ≤ e) × (e ≤ end)
+  many_within : (n : ℕ) (s : List ℕ) (end at e : ℕ) → at ≤ end → many (P s end) n at ≡ To e → (at ≤ e) × (e ≤ end)
   unfolding many
-  many-within zero s end at e h w = let t = to_is at e w in (omega arith, omega arith)
-  many-within (suc n) s end at e h w =
+  many_within zero s end at e h w = let t = to_is at e w in (omega arith, omega arith)
+  many_within (suc n) s end at e h w =
       let p = then_inv (P s end at) (many (P s end) n) e w in
       let i = a.within s end at p.0 h p.1.0 in
-      let j = many-within n s end p.0 e i.1 p.1.1 in
+      let j = many_within n s end p.0 e i.1 p.1.1 in
       (omega arith, j.1)
 
-  many-complete : (n : ℕ) (s : List ℕ) (end at e : ℕ) → at ≤ end → end ≤ length s → Bytes s → many (P s end) n at ≡ To e
+  many_complete : (n : ℕ) (s : List ℕ) (end at e : ℕ) → at ≤ end → end ≤ length s → Bytes s → many (P s end) n at ≡ To e
       → (xs : List X) × (((length xs ≡ n) × All Ok xs) × (Lies (encs enc xs) s at × (e ≡ at + length (encs enc xs))))
   unfolding many
-  many-complete zero s end at e h m z w = let t = to_is at e w in ([], ((refl, record {}), (refl, omega arith)))
-  many-complete (suc n) s end at e h m z w =
+  many_complete zero s end at e h m z w = let t = to_is at e w in ([], ((refl, record {}), (refl, omega arith)))
+  many_complete (suc n) s end at e h m z w =
       let p = then_inv (P s end at) (many (P s end) n) e w in
       let i = a.within s end at p.0 h p.1.0 in
       let u = a.complete s end at p.0 h m z p.1.0 in
-      let v = many-complete n s end p.0 e i.1 m z p.1.1 in (
+      let v = many_complete n s end p.0 e i.1 m z p.1.1 in (
         u.0 ∷ v.0,
         (
           (ap suc v.1.0.0, (u.1.0, v.1.0.1)),
@@ -59,29 +59,29 @@ module _ {X : Type 0} {P : Walker} {Ok : X → Type 0} {enc : X → List ℕ} (a
         ),
       )
 
-  many-unique : (xs ys : List X) (p q : List ℕ) → length xs ≡ length ys → All Ok xs → All Ok ys
+  many_unique : (xs ys : List X) (p q : List ℕ) → length xs ≡ length ys → All Ok xs → All Ok ys
       → encs enc xs ++ p ≡ encs enc ys ++ q → xs ≡ ys
-  many-unique [] [] p q h o r e = refl
-  many-unique [] (y ∷ ys) p q h o r e = absurd (omega arith)
-  many-unique (x ∷ xs) [] p q h o r e = absurd (omega arith)
-  many-unique (x ∷ xs) (y ∷ ys) p q h o r e =
+  many_unique [] [] p q h o r e = refl
+  many_unique [] (y ∷ ys) p q h o r e = absurd (omega arith)
+  many_unique (x ∷ xs) [] p q h o r e = absurd (omega arith)
+  many_unique (x ∷ xs) (y ∷ ys) p q h o r e =
       let e2 : enc x ++ (encs enc xs ++ p) ≡ enc y ++ (encs enc ys ++ q) =
       sym (append_assoc (enc x) (encs enc xs) p) ∙ e ∙ append_assoc (enc y) (encs enc ys) q in
       let f : x ≡ y = a.unique x y _ _ o.0 r.0 e2 in
-      let g : xs ≡ ys = many-unique xs ys p q (omega arith) o.1 r.1 (after enc x y _ _ f e2) in
+      let g : xs ≡ ys = many_unique xs ys p q (omega arith) o.1 r.1 (after enc x y _ _ f e2) in
       cc
 
-  pub many-bytes : (xs : List X) → All Ok xs → Bytes (encs enc xs)
-  many-bytes [] o = λ i. omega arith
-  many-bytes (x ∷ xs) o = bytes_append (enc x) (encs enc xs) (a.bytes x o.0) (many-bytes xs o.1)
+  pub many_bytes : (xs : List X) → All Ok xs → Bytes (encs enc xs)
+  many_bytes [] o = λ i. omega arith
+  many_bytes (x ∷ xs) o = bytes_append (enc x) (encs enc xs) (a.bytes x o.0) (many_bytes xs o.1)
 
-  pub times-law : (n : ℕ) → Lawful {X = List X} (λ s end at. many (P s end) n at) (λ xs. (length xs ≡ n) × All Ok xs) (encs enc)
-  times-law n = record {
-    sound = λ s end at xs o l h. many-sound n s end at xs o.0 o.1 l h;
-    complete = many-complete n;
-    unique = λ xs ys p q o r e. many-unique xs ys p q (o.0 ∙ sym r.0) o.1 r.1 e;
-    within = many-within n;
-    bytes = λ xs o. many-bytes xs o.1;
+  pub times_law : (n : ℕ) → Lawful {X = List X} (λ s end at. many (P s end) n at) (λ xs. (length xs ≡ n) × All Ok xs) (encs enc)
+  times_law n = record {
+    sound = λ s end at xs o l h. many_sound n s end at xs o.0 o.1 l h;
+    complete = many_complete n;
+    unique = λ xs ys p q o r e. many_unique xs ys p q (o.0 ∙ sym r.0) o.1 r.1 e;
+    within = many_within n;
+    bytes = λ xs o. many_bytes xs o.1;
   }
 
 -- a format whose count must not be 0
@@ -90,8 +90,8 @@ module _ {X : Type 0} {W : Walker} {Ok : X → Type 0} {enc : X → List ℕ} (b
   counted s end at e w = ⊎_elim (λ t. never (at - back) e t.1) (λ t. (omega (arith, eqb-false n 0 t.0), t.1))
       (pick_inv (eqb n 0) (Bad (at - back)) (W s end at) (To e) w)
 
-  pub some-law : Lawful {X = X} (λ s end at. pick (eqb n 0) (Bad (at - back)) (W s end at)) (λ x. (0 < n) × Ok x) enc
-  some-law = record {
+  pub some_law : Lawful {X = X} (λ s end at. pick (eqb n 0) (Bad (at - back)) (W s end at)) (λ x. (0 < n) × Ok x) enc
+  some_law = record {
     sound = λ s end at x o l h. rw (ne_eqb n 0 (λ z. omega arith)) (a.sound s end at x o.1 l h);
     complete = λ s end at e h m z w.
         let c = counted s end at e w in
@@ -105,30 +105,30 @@ module _ {X : Type 0} {W : Walker} {Ok : X → Type 0} {enc : X → List ℕ} (b
 -- ---- until the container's end
 module _ {X : Type 0} {P : Walker} {Ok : X → Type 0} {enc : X → List ℕ} (a : Lawful P Ok enc)
     (full : (x : X) → Ok x → 0 < length (enc x)) where
-  unto-sound : (f : ℕ) (s : List ℕ) (end at : ℕ) (xs : List X) → end ≤ at + f → All Ok xs → Lies (encs enc xs) s at
+  unto_sound : (f : ℕ) (s : List ℕ) (end at : ℕ) (xs : List X) → end ≤ at + f → All Ok xs → Lies (encs enc xs) s at
       → end ≡ at + length (encs enc xs) → unto (P s) f end at ≡ To end
   unfolding unto
-  unto-sound zero s end at [] d o l h = ends_at end at (omega arith)
-  unto-sound zero s end at (x ∷ xs) d o l h = absurd (omega (arith, full x o.0, length-append (enc x) (encs enc xs)))
-  unto-sound (suc f) s end at [] d o l h = rw (le-ltb at end (omega arith)) (ends_at end at (omega arith))
-  unto-sound (suc f) s end at (x ∷ xs) d o l h =
+  unto_sound zero s end at [] d o l h = ends_at end at (omega arith)
+  unto_sound zero s end at (x ∷ xs) d o l h = absurd (omega (arith, full x o.0, length-append (enc x) (encs enc xs)))
+  unto_sound (suc f) s end at [] d o l h = rw (le-ltb at end (omega arith)) (ends_at end at (omega arith))
+  unto_sound (suc f) s end at (x ∷ xs) d o l h =
       let j = length-append (enc x) (encs enc xs) in
       let k = full x o.0 in
       let i = lies_split (enc x) (encs enc xs) s at l in
       let u = a.sound s end at x o.0 i.0 (omega arith) in
-      let v = unto-sound f s end (at + length (enc x)) xs (omega arith) o.1 i.1 (omega arith) in
+      let v = unto_sound f s end (at + length (enc x)) xs (omega arith) o.1 i.1 (omega arith) in
       rw (lt-ltb at end (omega arith)) (then_to _ _ _ _ u v)
 
-  unto-complete : (f : ℕ) (s : List ℕ) (end at : ℕ) → at ≤ end → end ≤ length s → Bytes s → unto (P s) f end at ≡ To end
+  unto_complete : (f : ℕ) (s : List ℕ) (end at : ℕ) → at ≤ end → end ≤ length s → Bytes s → unto (P s) f end at ≡ To end
       → (xs : List X) × (All Ok xs × (Lies (encs enc xs) s at × (end ≡ at + length (encs enc xs))))
   unfolding unto
-  unto-complete zero s end at h m z w = let t = ended end at end w in ([], (record {}, (refl, omega arith)))
-  unto-complete (suc f) s end at h m z w = ⊎_elim
+  unto_complete zero s end at h m z w = let t = ended end at end w in ([], (record {}, (refl, omega arith)))
+  unto_complete (suc f) s end at h m z w = ⊎_elim
       (λ t.
       let p = then_inv (P s end at) (unto (P s) f end) end t.1 in
       let i = a.within s end at p.0 h p.1.0 in
       let u = a.complete s end at p.0 h m z p.1.0 in
-      let v = unto-complete f s end p.0 i.1 m z p.1.1 in (
+      let v = unto_complete f s end p.0 i.1 m z p.1.1 in (
         u.0 ∷ v.0,
         (
           (u.1.0, v.1.0),
@@ -141,28 +141,28 @@ module _ {X : Type 0} {P : Walker} {Ok : X → Type 0} {enc : X → List ℕ} (a
       (λ t. let g = ended end at end t.1 in ([], (record {}, (refl, omega arith))))
       (pick_inv (ltb at end) (then (P s end at) (unto (P s) f end)) (ends end at) (To end) w)
 
-  unto-unique : (xs ys : List X) → All Ok xs → All Ok ys → encs enc xs ≡ encs enc ys → xs ≡ ys
-  unto-unique [] [] o r e = refl
-  unto-unique [] (y ∷ ys) o r e = absurd (omega (arith, ap length e, full y r.0, length-append (enc y) (encs enc ys)))
-  unto-unique (x ∷ xs) [] o r e = absurd (omega (arith, ap length e, full x o.0, length-append (enc x) (encs enc xs)))
-  unto-unique (x ∷ xs) (y ∷ ys) o r e =
+  unto_unique : (xs ys : List X) → All Ok xs → All Ok ys → encs enc xs ≡ encs enc ys → xs ≡ ys
+  unto_unique [] [] o r e = refl
+  unto_unique [] (y ∷ ys) o r e = absurd (omega (arith, ap length e, full y r.0, length-append (enc y) (encs enc ys)))
+  unto_unique (x ∷ xs) [] o r e = absurd (omega (arith, ap length e, full x o.0, length-append (enc x) (encs enc xs)))
+  unto_unique (x ∷ xs) (y ∷ ys) o r e =
       let f : x ≡ y = a.unique x y _ _ o.0 r.0 e in
-      let g : xs ≡ ys = unto-unique xs ys o.1 r.1 (after enc x y _ _ f e) in
+      let g : xs ≡ ys = unto_unique xs ys o.1 r.1 (after enc x y _ _ f e) in
       cc
 
-  unto-whole : (f : ℕ) (s : List ℕ) (end at e : ℕ) → unto (P s) f end at ≡ To e → e ≡ end
+  unto_whole : (f : ℕ) (s : List ℕ) (end at e : ℕ) → unto (P s) f end at ≡ To e → e ≡ end
   unfolding unto
-  unto-whole zero s end at e w = (ended end at e w).1
-  unto-whole (suc f) s end at e w = ⊎_elim
-      (λ t. let p = then_inv (P s end at) (unto (P s) f end) e t.1 in unto-whole f s end p.0 e p.1.1)
+  unto_whole zero s end at e w = (ended end at e w).1
+  unto_whole (suc f) s end at e w = ⊎_elim
+      (λ t. let p = then_inv (P s end at) (unto (P s) f end) e t.1 in unto_whole f s end p.0 e p.1.1)
       (λ t. (ended end at e t.1).1)
       (pick_inv (ltb at end) (then (P s end at) (unto (P s) f end)) (ends end at) (To e) w)
 
   pub list_law : Fills {X = List X} (λ s end at. unto (P s) end end at) (All Ok) (encs enc)
   list_law = record {
-    sound = λ s end at xs o l h. unto-sound end s end at xs (omega arith) o l h;
-    complete = λ s end. unto-complete end s end;
-    unique = unto-unique;
-    whole = λ s end. unto-whole end s end;
-    bytes = many-bytes a;
+    sound = λ s end at xs o l h. unto_sound end s end at xs (omega arith) o l h;
+    complete = λ s end. unto_complete end s end;
+    unique = unto_unique;
+    whole = λ s end. unto_whole end s end;
+    bytes = many_bytes a;
   }

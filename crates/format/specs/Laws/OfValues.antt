@@ -7,7 +7,7 @@ use Rattle.format.specs.Lawful.{Lies, total}
 use Rattle.format.specs.Repeats.{Bytes}
 use Rattle.format.specs.Laws.OfBytes.{lies_at, lies_split, lies_byte}
 use Rattle.bytes_at.specs.Bits.{bits_at, field_at}
-use Rattle.bytes_at.proofs.BitLaws.{bits_lt, bits-add, byte-bits}
+use Rattle.bytes_at.proofs.BitLaws.{bits_lt, bits_add, byte_bits_lem}
 use Rattle.format.specs.Values.{Field, bits, reserved, piece, bits_of, width, Vals, Fit, number, bytes_of}
 use Rattle.format.specs.Heads.{steps_after, vals_at}
 
@@ -50,7 +50,7 @@ vals_from [] s at o = refl
 vals_from (f ∷ fs) s at o =
     let e : 8 * at + (o + bits_of f) ≡ 8 * at + o + bits_of f = omega arith in
     ap (λ m. field_at s at o (bits_of f) * 2 ^ width fs + m) (vals_from fs s at (o + bits_of f) ∙ ap (λ p. bits_at s p (width fs)) e)
-    ∙ sym (bits-add s (8 * at + o) (bits_of f) (width fs))
+    ∙ sym (bits_add s (8 * at + o) (bits_of f) (width fs))
 
 pub vals_number : (fs : List Field) (s : List ℕ) (at : ℕ) → number fs (vals_at fs s at 0) ≡ bits_at s (8 * at) (width fs)
 vals_number fs s at = vals_from fs s at 0 ∙ ap (λ p. bits_at s p (width fs)) (omega arith)
@@ -74,8 +74,8 @@ bits_suc : (k : ℕ) (s : List ℕ) (at : ℕ) → byte_at s at < 256
     → bits_at s (8 * at) (8 * suc k) ≡ byte_at s at * 2 ^ (8 * k) + bits_at s (8 * suc at) (8 * k)
 bits_suc k s at h =
     let e : 8 * at + 8 ≡ 8 * suc at = omega arith in
-    ap (bits_at s (8 * at)) (eight k) ∙ bits-add s (8 * at) 8 (8 * k)
-    ∙ ap (λ b. b * 2 ^ (8 * k) + bits_at s (8 * at + 8) (8 * k)) (byte-bits s at h)
+    ap (bits_at s (8 * at)) (eight k) ∙ bits_add s (8 * at) 8 (8 * k)
+    ∙ ap (λ b. b * 2 ^ (8 * k) + bits_at s (8 * at + 8) (8 * k)) (byte_bits_lem s at h)
     ∙ ap (λ p. byte_at s at * 2 ^ (8 * k) + bits_at s p (8 * k)) e
 
 -- where the bytes of a number lie, it stands

@@ -7,7 +7,7 @@ use lib.Seq.{length-take-le}
 use Rattle.listing.specs.Runs.{all_steps}
 use Rattle.listing.proofs.NextLaws.{Alike}
 use Rattle.shown.proofs.PutLaws.{put_inside, put_size}
-use Rattle.lister.proofs.AnswerLaws.{alike, takes, a-record-on, stands}
+use Rattle.lister.proofs.AnswerLaws.{alike, takes, a_record_on, stands}
 use borrow.Author.Rules.{rules}
 use Rattle.lister.proofs.answer.Statement.{statement}
 use Rattle.lister.proofs.answer.Tie as tie
@@ -72,7 +72,7 @@ loop-again c =
     let a = d.before.before.before.before.before.before.before.args in
     let q = c.before.enum_told.given.1 in (
       (takes a.number a.held.now a.input l.n l.at d.step.ensures q l.invariant.0).1,
-      (a-record-on a.number a.held.now a.input l.n l.at d.step.ensures q l.invariant.1.0, put_size d.step.ensures.puts ∙ l.invariant.1.1),
+      (a_record_on a.number a.held.now a.input l.n l.at d.step.ensures q l.invariant.1.0, put_size d.step.ensures.puts ∙ l.invariant.1.1),
     )
 
 enum-told-2 : tie.Need-enum-told-2 invariant-loop decreases-loop

@@ -1,5 +1,5 @@
 -- `put_end` meets its contract.
-use Rattle.listing.proofs.StepLaws.{at-the-end, cut-at-the-end, tells, tells-over}
+use Rattle.listing.proofs.StepLaws.{at_the_end, cut_at_the_end, tells, tells_over}
 use borrow.Author.Rules.{rules}
 use Rattle.listing.proofs.put_end.Statement.{statement}
 use Rattle.listing.proofs.put_end.Tie as tie
@@ -16,7 +16,7 @@ same_length c = search rules
 returns : tie.Need-returns
 returns c =
     let d = c.before.before.before in
-    tells (at-the-end _ _ d.before.before.if1.true) (tells-over d.put_last.ensures c.over.ensures)
+    tells (at_the_end _ _ d.before.before.if1.true) (tells_over d.put_last.ensures c.over.ensures)
 
 put-bad-requires : tie.Need-put-bad-requires
 put-bad-requires c κs = search rules
@@ -30,7 +30,7 @@ same-length-2 c = search rules
 returns-2 : tie.Need-returns-2
 returns-2 c =
     let d = c.before.before.before in
-    tells (cut-at-the-end _ _ d.before.before.if1.false) (tells-over d.put-bad.ensures c.over2.ensures)
+    tells (cut_at_the_end _ _ d.before.before.if1.false) (tells_over d.put-bad.ensures c.over2.ensures)
 
 pub put-end-spec : {M : Type 1} → statement M
 put-end-spec =

@@ -3,7 +3,7 @@ use mathlib.Core.Path.{refl}
 use Rattle.listing.specs.Steps.{short_step}
 use native.Mathlib.Omega.{arith}
 use Rattle.shown.proofs.PutLaws.{put_nothing}
-use Rattle.listing.proofs.StepLaws.{tells-over}
+use Rattle.listing.proofs.StepLaws.{tells_over}
 use borrow.Author.Rules.{rules}
 use Rattle.listing.proofs.put_short.Statement.{statement}
 use Rattle.listing.proofs.put_short.Tie as tie
@@ -41,7 +41,7 @@ same-length-2 c = search rules
 
 returns-3 : tie.Need-returns-3
 unfolding short_step
-returns-3 c = rw c.before.before.before.before.before.enum-told3.given.1 (tells-over c.before.before.before.put-bad.ensures c.over.ensures)
+returns-3 c = rw c.before.before.before.before.before.enum-told3.given.1 (tells_over c.before.before.before.put-bad.ensures c.over.ensures)
 
 pub put-short-spec : {M : Type 1} → statement M
 put-short-spec =

@@ -4,7 +4,7 @@ use mathlib.Core.Bool.{true, false}
 use Prim.Native.Nat.{ℕ, ◌+◌}
 use native.Mathlib.Omega.{arith}
 use Rattle.listing.specs.Steps.{full_step}
-use Rattle.listing.proofs.StepLaws.{too_short, long-enough, tells, tells-over}
+use Rattle.listing.proofs.StepLaws.{too_short, long_enough, tells, tells_over}
 use borrow.Author.Rules.{rules}
 use Rattle.listing.proofs.step.Statement.{statement}
 use Rattle.listing.proofs.step.Tie as tie
@@ -43,7 +43,7 @@ returns-2 c =
     let size = d.before.before.before.to-come.ensures.0 in
     let a = d.before.before.before.before.before.before.args in
     tells
-    (long-enough a.number a.held.now a.input true (omega (arith, d.before.before.if1.false, size)) (sym d.before.is_whole.ensures ∙ d.if2.true))
+    (long_enough a.number a.held.now a.input true (omega (arith, d.before.before.if1.false, size)) (sym d.before.is_whole.ensures ∙ d.if2.true))
     (record { puts = c.before.before.put_record.ensures; taken = ap (λ (k : ℕ). 7 + k) size; next = refl })
 
 put-bad-requires : tie.Need-put-bad-requires
@@ -62,8 +62,8 @@ returns-3 c =
     let size = d.before.before.before.to-come.ensures.0 in
     let a = d.before.before.before.before.before.before.args in
     tells
-    (long-enough a.number a.held.now a.input false (omega (arith, d.before.before.if1.false, size)) (sym d.before.is_whole.ensures ∙ d.if2.false))
-    (tells-over c.before.before.before.put-bad.ensures c.over.ensures)
+    (long_enough a.number a.held.now a.input false (omega (arith, d.before.before.if1.false, size)) (sym d.before.is_whole.ensures ∙ d.if2.false))
+    (tells_over c.before.before.before.put-bad.ensures c.over.ensures)
 
 pub step_spec : {M : Type 1} → statement M
 step_spec =

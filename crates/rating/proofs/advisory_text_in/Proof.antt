@@ -1,5 +1,5 @@
 -- `advisory_text_in` meets its contract: what is found from here on is the whole answer.
-use Rattle.rating.proofs.FirstLaws.{stands, first_past, first-here, first_next}
+use Rattle.rating.proofs.FirstLaws.{stands, first_past, first_here, first_next}
 use Rattle.rating.specs.Ratings.{descriptor_size, first_match, region_in, region_text_at, text_in}
 use Rattle.descriptor.specs.Descriptors.{content_advisory}
 use native.Mathlib.Omega.{arith}
@@ -29,7 +29,7 @@ room-requires c κs = tt
 
 returns : tie.Need-returns invariant-loop decreases-loop
 returns c = let z = c.before.before in let o = z.before.loop in
-    first_past _ _ _ o.at _ _ _ _ z.descriptor-size.ensures.0 o.invariant.0 (omega arith) ∙ o.invariant.1.1
+    first_past _ _ _ o.at _ _ _ _ z.descriptor_size_lem.ensures.0 o.invariant.0 (omega arith) ∙ o.invariant.1.1
 
 byte-requires : tie.Need-byte-requires invariant-loop decreases-loop
 byte-requires c κs = tt
@@ -52,8 +52,8 @@ returns-2 c = let b = c.before.before.before in let z = b.before.before.before i
     let s = z.before.before.before.args.s.now in
     let region = z.before.before.before.args.region in
     ◌∙◌ {b = region_in s region o.at (region_text_at s) none}
-    (rw (c.before.ahead.ensures.0, z.descriptor-size.ensures.0) at c.text-of-first.ensures)
-    (first-here _ _ _ o.at _ _ _ _ z.descriptor-size.ensures.0 _ b.byte.ensures.0
+    (rw (c.before.ahead.ensures.0, z.descriptor_size_lem.ensures.0) at c.text-of-first.ensures)
+    (first_here _ _ _ o.at _ _ _ _ z.descriptor_size_lem.ensures.0 _ b.byte.ensures.0
     (omega arith) o.invariant.0 (omega (arith, o.invariant.1.0)) c.before.before.if2.true
     ∙ o.invariant.1.1)
 
@@ -68,7 +68,7 @@ loop-again c = let b = c.before in let z = b.before.before.before in let o = z.b
   o.invariant.0 - 1,
   (
     omega (arith, o.invariant.1.0),
-    first_next _ _ _ o.at _ _ _ _ z.descriptor-size.ensures.0 _ b.byte.ensures.0
+    first_next _ _ _ o.at _ _ _ _ z.descriptor_size_lem.ensures.0 _ b.byte.ensures.0
         (omega arith) o.invariant.0 (omega (arith, o.invariant.1.0)) c.if2.false ∙ o.invariant.1.1,
   ),
 )

@@ -1,5 +1,5 @@
 -- `descriptor_in` meets its contract: what is left of the list has the descriptor of what is left of the number.
-use Rattle.rating.proofs.FirstLaws.{none-past, descriptor-here, descriptor-next}
+use Rattle.rating.proofs.FirstLaws.{none_past, descriptor_here, descriptor_next}
 use Rattle.rating.specs.Ratings.{descriptor_in}
 use native.Mathlib.Omega.{arith}
 use mathlib.Core.Path.{◌≡◌, refl, ◌∙◌}
@@ -24,7 +24,7 @@ room-requires c κs = tt
 
 returns : tie.Need-returns invariant-loop decreases-loop
 returns c = let d = c.before.before in let l = d.before.loop in
-    none-past _ _ _ _ d.descriptor-size.ensures.0 l.left (omega arith) ∙ l.invariant
+    none_past _ _ _ _ d.descriptor_size_lem.ensures.0 l.left (omega arith) ∙ l.invariant
 
 byte-requires : tie.Need-byte-requires invariant-loop decreases-loop
 byte-requires c κs = tt
@@ -41,7 +41,7 @@ byte-requires-2 c κs = tt
 returns-2 : tie.Need-returns-2 invariant-loop decreases-loop
 returns-2 c = let d = c.before.before.before.before.before in let l = d.before.loop in
     rw (c.byte2.ensures.0, c.before.byte.ensures.0)
-    (descriptor-here _ _ _ _ d.descriptor-size.ensures.0 l.left (omega arith) (omega arith) ∙ l.invariant)
+    (descriptor_here _ _ _ _ d.descriptor_size_lem.ensures.0 l.left (omega arith) (omega arith) ∙ l.invariant)
 
 add_at : tie.Need-overflow-add-at invariant-loop decreases-loop
 add_at c = omega arith
@@ -54,7 +54,7 @@ loop-less c = omega arith
 
 loop-again : tie.Need-loop-preserved invariant-loop decreases-loop
 loop-again c = let d = c.before.before.before in let l = d.before.loop in
-    descriptor-next _ _ _ _ d.descriptor-size.ensures.0 l.left c.if2.false (omega arith) ∙ l.invariant
+    descriptor_next _ _ _ _ d.descriptor_size_lem.ensures.0 l.left c.if2.false (omega arith) ∙ l.invariant
 
 pub descriptor-in-spec : {M : Type 1} → statement M
 descriptor-in-spec =

@@ -1,5 +1,5 @@
 -- `rating_in` meets its contract: at every turn, what is found from here on is the whole answer.
-use Rattle.rating.proofs.FirstLaws.{stands, dimensions_fit, first_none, first_past, first-here, first_next}
+use Rattle.rating.proofs.FirstLaws.{stands, dimensions_fit, first_none, first_past, first_here, first_next}
 use Rattle.rating.specs.Ratings.{descriptor_size, region_size, first_match, rated_by_region, rated_by_advisory, rating_in}
 use Rattle.rating.specs.Values.{no_advisory, region_absent, dimension_absent, value}
 use Rattle.descriptor.specs.Descriptors.{content_advisory}
@@ -62,8 +62,8 @@ add-p c = let b = c.before.before in let z = b.before.before.before.before in
 
 loop-holds : tie.Need-loop-init invariant-loop2 decreases-loop2 invariant-loop decreases-loop invariant-search decreases-search
 loop-holds c = let b = c.before.before in let z = b.before.before.before in let o = z.before.search in
-    rw (c.ahead.ensures.0, z.descriptor-size.ensures.0)
-    (first-here _ _ _ o.at _ _ _ _ z.descriptor-size.ensures.0 _ b.byte.ensures.0
+    rw (c.ahead.ensures.0, z.descriptor_size_lem.ensures.0)
+    (first_here _ _ _ o.at _ _ _ _ z.descriptor_size_lem.ensures.0 _ b.byte.ensures.0
     (omega arith) o.invariant.0 (omega (arith, o.invariant.1.0)) c.before.if2.true ∙ o.invariant.1.1)
 
 region-size-requires :
@@ -88,7 +88,7 @@ add-q c = omega arith
 loop2-holds : tie.Need-loop2-init invariant-loop2 decreases-loop2 invariant-loop decreases-loop invariant-search decreases-search
 loop2-holds c = let b = c.before.before in let z = b.before.before.before in let l = z.before.before.loop in (
   rw c.byte3.ensures.0
-      (first-here _ _ _ l.p _ _ _ _ z.region-size.ensures.0 _ b.byte2.ensures.0
+      (first_here _ _ _ l.p _ _ _ _ z.region_size_lem.ensures.0 _ b.byte2.ensures.0
       (omega arith) l.regions (omega arith) c.before.if4.true ∙ l.invariant),
   dimensions_fit _ l.p _ c.byte3.ensures.0,
 )
@@ -129,7 +129,7 @@ loop-less c = omega arith
 
 loop-again : tie.Need-loop-preserved invariant-loop2 decreases-loop2 invariant-loop decreases-loop invariant-search decreases-search
 loop-again c = let b = c.before in let z = b.before.before.before in let l = z.before.before.loop in
-    first_next _ _ _ l.p _ _ _ _ z.region-size.ensures.0 _ b.byte2.ensures.0
+    first_next _ _ _ l.p _ _ _ _ z.region_size_lem.ensures.0 _ b.byte2.ensures.0
     (omega arith) l.regions (omega arith) c.if4.false ∙ l.invariant
 
 add_at : tie.Need-overflow-add-at invariant-loop2 decreases-loop2 invariant-loop decreases-loop invariant-search decreases-search
@@ -143,19 +143,19 @@ search-again c = let b = c.before in let z = b.before.before.before in let o = z
   o.invariant.0 - 1,
   (
     omega (arith, o.invariant.1.0),
-    first_next _ _ _ o.at _ _ _ _ z.descriptor-size.ensures.0 _ b.byte.ensures.0
+    first_next _ _ _ o.at _ _ _ _ z.descriptor_size_lem.ensures.0 _ b.byte.ensures.0
         (omega arith) o.invariant.0 (omega (arith, o.invariant.1.0)) c.if2.false ∙ o.invariant.1.1,
   ),
 )
 
 returns : tie.Need-returns invariant-loop2 decreases-loop2 invariant-loop decreases-loop invariant-search decreases-search
 returns c = let z = c.before.before in let o = z.before.search in
-    first_past _ _ _ o.at _ _ _ _ z.descriptor-size.ensures.0 o.invariant.0 (omega arith) ∙ o.invariant.1.1
+    first_past _ _ _ o.at _ _ _ _ z.descriptor_size_lem.ensures.0 o.invariant.0 (omega arith) ∙ o.invariant.1.1
 
 returns-2 : tie.Need-returns-2 invariant-loop2 decreases-loop2 invariant-loop decreases-loop invariant-search decreases-search
 returns-2 c = let b = c.before.before in let l = b.before.before.loop2 in
     rw c.byte5.ensures.0
-    (first-here _ _ _ l.q _ _ _ 2 refl _ b.byte4.ensures.0
+    (first_here _ _ _ l.q _ _ _ 2 refl _ b.byte4.ensures.0
     (omega arith) l.dimensions (omega arith) c.before.if5.true ∙ l.invariant.0)
 
 returns-3 : tie.Need-returns-3 invariant-loop2 decreases-loop2 invariant-loop decreases-loop invariant-search decreases-search
@@ -166,7 +166,7 @@ returns-4 c = first_none _ _ _ _ _ _ _ _ (omega arith) ∙ c.before.loop.invaria
 
 returns-5 : tie.Need-returns-5 invariant-loop2 decreases-loop2 invariant-loop decreases-loop invariant-search decreases-search
 returns-5 c = let z = c.before.before in let l = z.before.before.loop in
-    first_past _ _ _ l.p _ _ _ _ z.region-size.ensures.0 l.regions (omega arith) ∙ l.invariant
+    first_past _ _ _ l.p _ _ _ _ z.region_size_lem.ensures.0 l.regions (omega arith) ∙ l.invariant
 
 pub rating-in-spec : {M : Type 1} → statement M
 rating-in-spec =

@@ -1,5 +1,5 @@
 -- `text_of_first` meets its contract: the regions that are left lead to the answer.
-use Rattle.rating.proofs.FirstLaws.{first_none, first_past, first-here, first_next}
+use Rattle.rating.proofs.FirstLaws.{first_none, first_past, first_here, first_next}
 use Rattle.rating.specs.Ratings.{region_size, first_match, region_text_at}
 use native.Mathlib.Omega.{arith}
 use mathlib.Core.Option.{none}
@@ -25,7 +25,7 @@ room-requires c κs = tt
 
 returns : tie.Need-returns invariant-loop decreases-loop
 returns c = let z = c.before.before in let l = z.before.before.loop in
-    first_past _ _ _ l.at _ _ _ _ z.region-size.ensures.0 l.left (omega arith) ∙ l.invariant
+    first_past _ _ _ l.at _ _ _ _ z.region_size_lem.ensures.0 l.left (omega arith) ∙ l.invariant
 
 byte-requires : tie.Need-byte-requires invariant-loop decreases-loop
 byte-requires c κs = tt
@@ -47,7 +47,7 @@ ahead-requires c κs = tt
 returns-2 : tie.Need-returns-2 invariant-loop decreases-loop
 returns-2 c = let b = c.before.before.before in let z = b.before.before.before in let l = z.before.before.loop in
     rw (c.ahead.ensures.0, c.before.rated-size.ensures.0)
-    (first-here _ _ _ l.at _ _ _ _ z.region-size.ensures.0 _ b.byte.ensures.0
+    (first_here _ _ _ l.at _ _ _ _ z.region_size_lem.ensures.0 _ b.byte.ensures.0
     (omega arith) l.left (omega arith) c.before.before.if2.true ∙ l.invariant)
 
 add_at : tie.Need-overflow-add-at invariant-loop decreases-loop
@@ -61,7 +61,7 @@ loop-less c = omega arith
 
 loop-again : tie.Need-loop-preserved invariant-loop decreases-loop
 loop-again c = let b = c.before in let z = b.before.before.before in let l = z.before.before.loop in
-    first_next _ _ _ l.at _ _ _ _ z.region-size.ensures.0 _ b.byte.ensures.0
+    first_next _ _ _ l.at _ _ _ _ z.region_size_lem.ensures.0 _ b.byte.ensures.0
     (omega arith) l.left (omega arith) c.if2.false ∙ l.invariant
 
 returns-3 : tie.Need-returns-3 invariant-loop decreases-loop

@@ -5,7 +5,7 @@ use borrow.Author.Rules.{rules}
 use lib.ListN.{length}
 use lib.Seq.{sets}
 use Rattle.rows.specs.Rows.{rows_from}
-use Rattle.rows.proofs.RowsLaws.{entries-first, RowsLeft, rows-room, rows_step, rows-done}
+use Rattle.rows.proofs.RowsLaws.{entries_first, RowsLeft, rows_room, rows_step, rows_done}
 use Rattle.rows.proofs.put_rows.Statement.{statement}
 use Rattle.rows.proofs.put_rows.Tie as tie
 
@@ -26,12 +26,12 @@ loop-holds c =
 put-row-requires : tie.Need-put-row-requires invariant-loop decreases-loop
 put-row-requires c κs =
     let l = c.before.before.loop.invariant in
-    (entries-first _ _ _ _ c.before.loop-test.true l.entries, rows-room _ _ _ _ _ _ _ _ l c.before.loop-test.true)
+    (entries_first _ _ _ _ c.before.loop-test.true l.entries, rows_room _ _ _ _ _ _ _ _ l c.before.loop-test.true)
 
 add-p : tie.Need-overflow-add-p invariant-loop decreases-loop
 add-p c =
     let l = c.before.before.before.before.before.loop.invariant in
-    let r = rows-room _ _ _ _ _ _ _ _ l c.before.before.before.before.loop-test.true in
+    let r = rows_room _ _ _ _ _ _ _ _ l c.before.before.before.before.loop-test.true in
     omega (arith, r, l.same, c.before.before.before.before.before.before.width_of_lem.ensures.0)
 
 sub-left : tie.Need-overflow-sub-left invariant-loop decreases-loop
@@ -51,7 +51,7 @@ same_length : tie.Need-same-length invariant-loop decreases-loop
 same_length c = c.before.loop.invariant.same
 
 returns : tie.Need-returns invariant-loop decreases-loop
-returns c = rows-done _ _ _ _ _ _ _ _ c.before.loop.invariant (omega (arith, c.loop-test.false))
+returns c = rows_done _ _ _ _ _ _ _ _ c.before.loop.invariant (omega (arith, c.loop-test.false))
 
 pub put-rows-spec : {M : Type 1} → statement M
 put-rows-spec =

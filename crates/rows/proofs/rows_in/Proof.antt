@@ -2,7 +2,7 @@
 use native.Mathlib.Nat.{mul-le-mul}
 use native.Mathlib.Omega.{arith}
 use borrow.Author.Rules.{rules}
-use Rattle.rows.proofs.RowsLaws.{count_small, no_room, enough-room}
+use Rattle.rows.proofs.RowsLaws.{count_small, no_room, enough_room}
 use Rattle.rows.proofs.rows_in.Statement.{statement}
 use Rattle.rows.proofs.rows_in.Tie as tie
 
@@ -56,7 +56,7 @@ returns-2 c =
     let n = rw e.entry-for.ensures at w.before.count_of.ensures in
     let b = rw e.entry-for.ensures at f.first_of.ensures in
     let a = e.before.before.before.args in
-    enough-room a.row a.s.now a.out.now _ _ w.width_of_lem.ensures.0 n _ _ f.before.if1.false b c.before.before.put-rows.ensures
+    enough_room a.row a.s.now a.out.now _ _ w.width_of_lem.ensures.0 n _ _ f.before.if1.false b c.before.before.put-rows.ensures
 
 pub rows-in-spec : {M : Type 1} → statement M
 rows-in-spec =

@@ -6,7 +6,7 @@ use lib.ListN.{length, set}
 use Rattle.trees.specs.Which.{table_of}
 use Rattle.annex_c.specs.Tree.{walked}
 use Rattle.segment.specs.Inner.{SymbolAt, CodedAt}
-use Rattle.segment.proofs.PairLaws.{found_early, found_symbol, coded_early, coded-ended, coded-raw, coded-unit, raw_early, raw_broken, raw_unit}
+use Rattle.segment.proofs.PairLaws.{found_early, found_symbol, coded_early, coded_ended, coded_raw, coded_unit, raw_early, raw_broken, raw_unit}
 use Prim.Native.Nat.{ℕ, ◌+◌, ◌*◌, ◌-◌, ◌<◌}
 use borrow.Fn.Kinds.{In}
 use borrow.Fn.PlainCycle.{Measures, is, falls, and}
@@ -90,7 +90,7 @@ coded-ended-requires : (t : ℕ) → coded-lts.Need-ended-requires (coded-calls 
 coded-ended-requires t c κs = search rules
 
 coded-returns-2 : (t : ℕ) → coded-lts.Need-returns-2 (coded-calls t) (coded-at t) coded.Post
-coded-returns-2 t c = coded-ended (found t c.before.before.before) c.before.if1.true c.ended.ensures
+coded-returns-2 t c = coded_ended (found t c.before.before.before) c.before.if1.true c.ended.ensures
 
 coded-sub-raw : (t : ℕ) → coded-lts.Need-overflow-sub-raw (coded-calls t) (coded-at t) coded.Post
 coded-sub-raw t c = omega arith
@@ -101,7 +101,7 @@ coded-raw-requires t c κs =
     omega arith
 
 coded-returns-3 : (t : ℕ) → coded-lts.Need-returns-3 (coded-calls t) (coded-at t) coded.Post
-coded-returns-3 t c = coded-raw (found t c.before.before.before.before.before) c.before.before.if2.true c.raw.ensures
+coded-returns-3 t c = coded_raw (found t c.before.before.before.before.before) c.before.before.if2.true c.raw.ensures
 
 coded-wide-requires : (t : ℕ) → coded-lts.Need-wide-requires (coded-calls t) (coded-at t) coded.Post
 coded-wide-requires t c κs = search rules
@@ -124,7 +124,7 @@ coded-coded-requires t c κs =
 
 coded-returns-4 : (t : ℕ) → coded-lts.Need-returns-4 (coded-calls t) (coded-at t) coded.Post
 coded-returns-4 t c =
-    coded-unit (found t c.before.before.before.before.before.before) c.before.before.before.before.if1.false
+    coded_unit (found t c.before.before.before.before.before.before) c.before.before.before.before.if1.false
     c.before.before.before.if2.false c.before.before.wide.ensures c.coded.ensures
 
 raw-mul-if1 : (t : ℕ) → raw-lts.Need-overflow-mul-if1 (raw-calls t) (raw_at t) raw.Post

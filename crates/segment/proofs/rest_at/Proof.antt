@@ -8,7 +8,7 @@ use Rattle.annex_c.specs.Tree.{tree, walk}
 use Rattle.trees.specs.Which.{table_of}
 use Rattle.segment.specs.Bits.{all_bits}
 use Rattle.segment.proofs.BitLaws.{length_bits}
-use Rattle.steps.proofs.WalkLaws.{child_at, walk_early, walk-leaf, walk-node}
+use Rattle.steps.proofs.WalkLaws.{child_at, walk_early, walk_leaf, walk_node}
 use Rattle.segment.proofs.rest_at.Statement.{statement}
 use Rattle.segment.proofs.rest_at.Tie as tie
 
@@ -60,7 +60,7 @@ returns c =
     let v = child_at (table_of a.titles) a.prior q.node root.result c.before.before.bit_at.result (get_or bs q.i 0) c.before.byte_of.result
     root.ensures.0 c.before.before.bit_at.ensures.0 c.before.byte_of.ensures.0 in
     record {
-      reads = q.invariant.2 ∙ walk-leaf u bs q.node q.i c.before.byte_of.result v h
+      reads = q.invariant.2 ∙ walk_leaf u bs q.node q.i c.before.byte_of.result v h
           c.if1.true;
       onward = omega arith;
       inside = omega arith;
@@ -79,7 +79,7 @@ loop-again c =
     let root = c.before.before.before.before.before.root-of in
     let v = child_at (table_of a.titles) a.prior q.node root.result c.before.before.bit_at.result (get_or bs q.i 0) c.before.byte_of.result
     root.ensures.0 c.before.before.bit_at.ensures.0 c.before.byte_of.ensures.0 in
-    (c.if1.false, omega arith, q.invariant.2 ∙ walk-node u bs q.node q.i c.before.byte_of.result v c.if1.false)
+    (c.if1.false, omega arith, q.invariant.2 ∙ walk_node u bs q.node q.i c.before.byte_of.result v c.if1.false)
 
 returns-2 : tie.Need-returns-2 invariant-loop decreases-loop
 returns-2 c =

@@ -1,5 +1,5 @@
 -- `window` meets its contract.
-use Rattle.segment.proofs.WindowLaws.{window-made}
+use Rattle.segment.proofs.WindowLaws.{window_made}
 use borrow.Author.Rules.{rules}
 use Rattle.segment.proofs.window.Statement.{statement}
 use Rattle.segment.proofs.window.Tie as tie
@@ -28,7 +28,7 @@ shr-result c = search rules
 returns : tie.Need-returns
 returns c =
     let a = c.before.before.before.args in
-    window-made a.s.now a.at c.before.byte.result c.byte2.result c.before.byte.ensures.0 c.byte2.ensures.0 c.byte2.ensures.1.0
+    window_made a.s.now a.at c.before.byte.result c.byte2.result c.before.byte.ensures.0 c.byte2.ensures.0 c.byte2.ensures.1.0
 
 pub window-spec : {M : Type 1} → statement M
 window-spec =

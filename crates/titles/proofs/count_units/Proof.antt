@@ -5,7 +5,7 @@ use borrow.Author.Rules.{rules}
 use lib.ListN.{length}
 use Rattle.titles.specs.Titles.{units_from}
 use Rattle.titles.proofs.ReadLaws.{count_told_lem}
-use Rattle.titles.proofs.TitlesLaws.{CountLeft, count_room, units_few, count_step, count-done}
+use Rattle.titles.proofs.TitlesLaws.{CountLeft, count_room, units_few, count_step, count_done}
 use Rattle.titles.proofs.count_units.Statement.{statement}
 use Rattle.titles.proofs.count_units.Tie as tie
 
@@ -51,7 +51,7 @@ loop-again c =
 returns : tie.Need-returns invariant-loop decreases-loop
 returns c =
     let l = c.before.loop.invariant in
-    (count-done l (omega (arith, c.loop-test.false)), l.long)
+    (count_done l (omega (arith, c.loop-test.false)), l.long)
 
 pub count-units-spec : {M : Type 1} → statement M
 count-units-spec =

@@ -5,7 +5,7 @@ use borrow.Author.Rules.{rules}
 use lib.ListN.{length}
 use lib.Seq.{sets}
 use Rattle.titles.specs.Titles.{units_from, title_rows_from}
-use Rattle.titles.proofs.TitlesLaws.{TitlesLeft, units_few, count-done, row_room, units-room, titles-step, rows-done, units-done}
+use Rattle.titles.proofs.TitlesLaws.{TitlesLeft, units_few, count_done, row_room, units_room, titles_step, rows_done, units_done}
 use Rattle.titles.proofs.put_titles.Statement.{statement}
 use Rattle.titles.proofs.put_titles.Tie as tie
 
@@ -47,7 +47,7 @@ put-title-requires c κs =
       (l.count.events.begins, l.count.long),
       (
         row_room l _ h c.before.before.before.before.before.put-row.ensures.1,
-        (omega (arith, l.count.leads, units_few _ _ _ r.0.0, r.0.0.small), units-room l h r.1.1),
+        (omega (arith, l.count.leads, units_few _ _ _ r.0.0, r.0.0.small), units_room l h r.1.1),
       ),
     )
 
@@ -67,7 +67,7 @@ loop-again c =
     let l = c.before.before.before.before.before.before.before.before.before.before.before.before.before.loop.invariant in
     let e = c.before.before.before.before.before.before.before.before.before.before.put-row.ensures in
     let t = c.before.before.before.before.put-title.ensures in
-    titles-step l _ _ _ _ _ _ c.before.before.before.before.before.before.before.before.before.before.before.before.loop-test.true e.1 t.1.0 t.1.1.0 e.0 t.0 t.1.1.1
+    titles_step l _ _ _ _ _ _ c.before.before.before.before.before.before.before.before.before.before.before.before.loop-test.true e.1 t.1.0 t.1.1.0 e.0 t.0 t.1.1.1
 
 same_length : tie.Need-same-length invariant-loop decreases-loop
 same_length c = c.before.loop.invariant.same_rows
@@ -79,7 +79,7 @@ returns : tie.Need-returns invariant-loop decreases-loop
 returns c =
     let l = c.before.loop.invariant in
     let e : c.before.loop.left ≡ 0 = omega (arith, c.loop-test.false) in
-    (count-done l.count e, (rows-done l e, units-done l e))
+    (count_done l.count e, (rows_done l e, units_done l e))
 
 pub put-titles-spec : {M : Type 1} → statement M
 put-titles-spec =

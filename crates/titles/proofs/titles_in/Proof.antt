@@ -1,7 +1,7 @@
 -- `titles_in` meets its contract: 12, or the rows and the units.
 use Prim.Native.Nat.{ℕ}
 use lib.ListN.{length-replicate}
-use Rattle.titles.proofs.TitlesLaws.{no_rows, no_units, both-room}
+use Rattle.titles.proofs.TitlesLaws.{no_rows, no_units, both_room}
 use borrow.Author.Rules.{rules}
 use Rattle.titles.proofs.titles_in.Statement.{statement}
 use Rattle.titles.proofs.titles_in.Tie as tie
@@ -54,7 +54,7 @@ returns-2 c =
     let from = rw at at c.before.before.before.before.before.before.before.before.before.before.before.before.first.ensures in
     let a = c.before.before.before.before.before.before.before.before.before.before.before.before.before.before.before.before.before.before.args in
     let p = c.before.before.before.before.put-titles.ensures in
-    both-room a.s.now a.rows.now a.units.now _ _ k from _ _ _ c.before.before.before.before.before.before.before.before.before.before.before.if1.false (c.before.before.before.before.before.before.before.before.before.has_room.ensures.0 c.before.before.before.before.before.before.before.before.if2.true) p.0 p.1.0 p.1.1
+    both_room a.s.now a.rows.now a.units.now _ _ k from _ _ _ c.before.before.before.before.before.before.before.before.before.before.before.if1.false (c.before.before.before.before.before.before.before.before.before.has_room.ensures.0 c.before.before.before.before.before.before.before.before.if2.true) p.0 p.1.0 p.1.1
 
 returns-3 : tie.Need-returns-3
 returns-3 c =

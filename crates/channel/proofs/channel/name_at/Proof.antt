@@ -1,5 +1,5 @@
 -- `name_at` meets its contract: what is read is the numbers that the format names.
-use Rattle.channel.proofs.HeadLaws.{name-is}
+use Rattle.channel.proofs.HeadLaws.{name_is}
 use borrow.Author.Rules.{rules}
 use Rattle.channel.proofs.channel.name_at.Statement.{statement}
 use Rattle.channel.proofs.channel.name_at.Tie as tie
@@ -68,7 +68,7 @@ returns : tie.Need-returns
 returns c =
     let w = c.before.before.before in
     let v = w.before.before.before in
-    name-is _ _ v.word.ensures.1.1 w.before.before.word2.ensures.1.1 w.before.word3.ensures.1.1 w.word4.ensures.1.1
+    name_is _ _ v.word.ensures.1.1 w.before.before.word2.ensures.1.1 w.before.word3.ensures.1.1 w.word4.ensures.1.1
     c.before.before.word5.ensures.1.1 c.before.word6.ensures.1.1 c.word7.ensures.1.1
 
 pub name-at-spec : {M : Type 1} → statement M

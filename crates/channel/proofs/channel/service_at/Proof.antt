@@ -1,5 +1,5 @@
 -- `service_at` meets its contract: what is read is the numbers that the format names.
-use Rattle.channel.proofs.HeadLaws.{service-is}
+use Rattle.channel.proofs.HeadLaws.{service_is}
 use borrow.Author.Rules.{rules}
 use Rattle.channel.proofs.channel.service_at.Statement.{statement}
 use Rattle.channel.proofs.channel.service_at.Tie as tie
@@ -35,7 +35,7 @@ cast-t19 : tie.Need-overflow-cast-t19
 cast-t19 c = search rules
 
 returns : tie.Need-returns
-returns c = service-is _ _ c.before.word.ensures.1.1 c.word2.ensures.1.1
+returns c = service_is _ _ c.before.word.ensures.1.1 c.word2.ensures.1.1
 
 pub service-at-spec : {M : Type 1} → statement M
 service-at-spec =

@@ -1,5 +1,5 @@
 -- `tuning_at` meets its contract: what is read is the numbers that the format names.
-use Rattle.channel.proofs.HeadLaws.{tuning-is}
+use Rattle.channel.proofs.HeadLaws.{tuning_is}
 use borrow.Author.Rules.{rules}
 use Rattle.channel.proofs.channel.tuning_at.Statement.{statement}
 use Rattle.channel.proofs.channel.tuning_at.Tie as tie
@@ -61,7 +61,7 @@ cast-t23 c = search rules
 returns : tie.Need-returns
 returns c =
     let w = c.before.before.before in
-    tuning-is _ _ w.before.before.word.ensures.1.1 w.before.word2.ensures.1.1 w.byte.ensures.1.1
+    tuning_is _ _ w.before.before.word.ensures.1.1 w.before.word2.ensures.1.1 w.byte.ensures.1.1
     c.before.before.long.ensures.1.1 c.before.word3.ensures.1.1 c.word4.ensures.1.1
 
 pub tuning-at-spec : {M : Type 1} → statement M

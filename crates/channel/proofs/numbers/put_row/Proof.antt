@@ -35,7 +35,7 @@ unfolding channel_end
 returns c =
     let q = c.before.before.before in
     let n = q.before.before.before.before.before in (
-      c.list-end.ensures.0,
+      c.list_end_lem.ensures.0,
       q.put-part.ensures ∙ row_stored _ _ _ _ _ _ _ n.before.before.channel-at.ensures n.put-numbers.ensures q.before.descriptors-at.ensures.0,
     )
 

@@ -16,7 +16,7 @@ list-at-requires c κs = search rules
 
 returns : tie.Need-returns
 unfolding descriptors_at
-returns c = let t = c.before.text-end.ensures in
+returns c = let t = c.before.text_end_lem.ensures in
     (rw t.0 at c.list_at.ensures.0, omega (arith, t.1))
 
 pub descriptors-at-spec : {M : Type 1} → statement M

@@ -1,6 +1,6 @@
 -- `event_at` meets its contract.
 use Rattle.eit.specs.Fields.{event_at}
-use Rattle.eit.proofs.HeadLaws.{id-is, start_is, etm-is, seconds-is}
+use Rattle.eit.proofs.HeadLaws.{id_is, start_is, etm_is, seconds_is}
 use borrow.Author.Rules.{rules}
 use Rattle.eit.proofs.event.event_at.Statement.{statement}
 use Rattle.eit.proofs.event.event_at.Tie as tie
@@ -43,10 +43,10 @@ unfolding event_at
 returns c = let w = c.before.before in
     let d = w.before in
     let x = d.before.before.byte.ensures.1.1 in
-    let id = id-is _ _ w.word.ensures.1.1 in
+    let id = id_is _ _ w.word.ensures.1.1 in
     let start = start_is _ _ c.before.long.ensures.1.1 in
-    let seconds = seconds-is _ _ x c.word2.ensures.1.1 in
-    rw (id, start, etm-is _ _ x, seconds, d.before.title-at.ensures, d.descriptors-at.ensures.0)
+    let seconds = seconds_is _ _ x c.word2.ensures.1.1 in
+    rw (id, start, etm_is _ _ x, seconds, d.before.title-at.ensures, d.descriptors-at.ensures.0)
 
 pub event-at-spec : {M : Type 1} → statement M
 event-at-spec =

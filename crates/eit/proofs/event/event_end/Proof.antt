@@ -15,7 +15,7 @@ list-end-requires c κs = search rules
 
 returns : tie.Need-returns
 unfolding event_end
-returns c = rw c.before.text-end.ensures.0 at c.list-end.ensures.0
+returns c = rw c.before.text_end_lem.ensures.0 at c.list_end_lem.ensures.0
 
 pub event-end-spec : {M : Type 1} → statement M
 event-end-spec = tie.close (tie.spec add-text-end text-end-requires list-end-requires returns)

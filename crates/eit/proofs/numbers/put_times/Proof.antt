@@ -1,7 +1,7 @@
 -- `put_times` meets its contract.
 use mathlib.Core.Path.{◌∙◌}
 use Rattle.eit.specs.Fields.{times_row}
-use Rattle.eit.proofs.HeadLaws.{id-is, start_is, etm-is, seconds-is}
+use Rattle.eit.proofs.HeadLaws.{id_is, start_is, etm_is, seconds_is}
 use borrow.Author.Rules.{rules}
 use Rattle.eit.proofs.numbers.put_times.Statement.{statement}
 use Rattle.eit.proofs.numbers.put_times.Tie as tie
@@ -58,10 +58,10 @@ returns c = let q = c.before.before in
     let n2 = n3.before.before in
     let n1 = n2.before.before in
     let x = n1.before.before.byte.ensures.1.1 in
-    let id = n1.narrow.ensures ∙ id-is _ _ n1.before.word.ensures.1.1 in
+    let id = n1.narrow.ensures ∙ id_is _ _ n1.before.word.ensures.1.1 in
     let start = n2.narrow2.ensures ∙ start_is _ _ n2.before.long.ensures.1.1 in
-    let etm = q.before.narrow4.ensures ∙ etm-is _ _ x in
-    let seconds = n3.narrow3.ensures ∙ seconds-is _ _ x n3.before.word2.ensures.1.1 in
+    let etm = q.before.narrow4.ensures ∙ etm_is _ _ x in
+    let seconds = n3.narrow3.ensures ∙ seconds_is _ _ x n3.before.word2.ensures.1.1 in
     q.put4.ensures ∙ rw (id, start, etm, seconds)
 
 pub put-times-spec : {M : Type 1} → statement M

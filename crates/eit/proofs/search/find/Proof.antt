@@ -3,8 +3,8 @@ use mathlib.Core.Path.{◌≡◌, refl, sym, ◌∙◌}
 use native.Mathlib.Omega.{arith}
 use Rattle.eit.specs.Inner.{Events}
 use Rattle.eit.specs.Questions.{find_from}
-use Rattle.eit.proofs.HeadLaws.{id-is}
-use Rattle.eit.proofs.EventsLaws.{events_step, find-here, find-next, find_none}
+use Rattle.eit.proofs.HeadLaws.{id_is}
+use Rattle.eit.proofs.EventsLaws.{events_step, find_here, find_next, find_none}
 use borrow.Author.Rules.{rules}
 use Rattle.eit.proofs.search.find.Statement.{statement}
 use Rattle.eit.proofs.search.find.Tie as tie
@@ -23,7 +23,7 @@ word-requires c κs = search rules
 
 returns : tie.Need-returns invariant-loop decreases-loop
 returns c = let l = c.before.before.before.loop in
-    find-here _ _ l.left l.a (omega arith) (sym (id-is _ _ c.before.word.ensures.1.1) ∙ omega arith) ∙ l.invariant.1
+    find_here _ _ l.left l.a (omega arith) (sym (id_is _ _ c.before.word.ensures.1.1) ∙ omega arith) ∙ l.invariant.1
 
 event-end-requires : tie.Need-event-end-requires invariant-loop decreases-loop
 event-end-requires c κs = c.before.before.before.loop.invariant.0.begins
@@ -40,7 +40,7 @@ loop-again c = let w = c.before.before in
     let s = w.before.before.before.before.args.s.now in
     let e = c.event-end.ensures in (
       rw e (events_step s l.left l.a l.invariant.0 (omega arith)),
-      rw e (find-next _ _ l.left l.a (omega arith) (λ f. omega (arith, id-is s l.a w.word.ensures.1.1))) ∙ l.invariant.1,
+      rw e (find_next _ _ l.left l.a (omega arith) (λ f. omega (arith, id_is s l.a w.word.ensures.1.1))) ∙ l.invariant.1,
     )
 
 returns-2 : tie.Need-returns-2 invariant-loop decreases-loop

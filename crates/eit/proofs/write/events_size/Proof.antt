@@ -4,7 +4,7 @@ use mathlib.Core.Path.{◌≡◌}
 use native.Mathlib.Omega.{arith}
 use lib.ListN.{length}
 use Rattle.eit.specs.Inner.{size_given}
-use Rattle.eit.proofs.GivenLaws.{size-first, size_none, size-most}
+use Rattle.eit.proofs.GivenLaws.{size_first, size_none, size_most}
 use borrow.Author.Rules.{rules}
 use Rattle.eit.proofs.write.events_size.Statement.{statement}
 use Rattle.eit.proofs.write.events_size.Tie as tie
@@ -17,7 +17,7 @@ abbrev decreases-loop : tie.decreases-loop
 decreases-loop rows n size₀ a₀ left₀ size a left = left
 
 loop-holds : tie.Need-loop-init invariant-loop decreases-loop
-loop-holds c = let r = c.before.requires in (omega arith, (omega (arith, size-most _ _ _ r.1.1), omega arith))
+loop-holds c = let r = c.before.requires in (omega arith, (omega (arith, size_most _ _ _ r.1.1), omega arith))
 
 add-number-at : tie.Need-overflow-add-number-at invariant-loop decreases-loop
 add-number-at c = search rules
@@ -53,7 +53,7 @@ loop-again : tie.Need-loop-preserved invariant-loop decreases-loop
 loop-again c =
     let l = c.before.before.before.loop in
     let rows = c.before.before.before.before.before.args.rows.now in
-    let t = size-first rows l.left l.a c.before.before.loop-test.true in
+    let t = size_first rows l.left l.a c.before.before.loop-test.true in
     (omega arith, (l.invariant.1.0, omega (arith, t, c.before.number_at.ensures.0, c.number-at2.ensures.0)))
 
 returns : tie.Need-returns invariant-loop decreases-loop

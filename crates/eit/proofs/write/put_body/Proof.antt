@@ -1,5 +1,5 @@
 -- `put_body` meets its contract: the count, then the events.
-use Rattle.eit.proofs.WriteLaws.{body-put}
+use Rattle.eit.proofs.WriteLaws.{body_put}
 use borrow.Author.Rules.{rules}
 use Rattle.eit.proofs.write.put_body.Statement.{statement}
 use Rattle.eit.proofs.write.put_body.Tie as tie
@@ -19,7 +19,7 @@ same_length c = search rules
 returns : tie.Need-returns
 returns c =
     let q = c.before.before in
-    body-put _ _ _ _ _ q.before.before.before.before.put_byte.ensures q.put-events.ensures
+    body_put _ _ _ _ _ q.before.before.before.before.put_byte.ensures q.put-events.ensures
 
 pub put-body-spec : {M : Type 1} → statement M
 put-body-spec =

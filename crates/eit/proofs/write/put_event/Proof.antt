@@ -1,6 +1,6 @@
 -- `put_event` meets its contract: the head, the title, the descriptors.
 use native.Mathlib.Omega.{arith}
-use Rattle.eit.proofs.WriteLaws.{row_placed, event-put, event-next}
+use Rattle.eit.proofs.WriteLaws.{row_placed, event_put, event_next}
 use borrow.Author.Rules.{rules}
 use Rattle.eit.proofs.write.put_event.Statement.{statement}
 use Rattle.eit.proofs.write.put_event.Tie as tie
@@ -66,7 +66,7 @@ returns c =
     let r = g.before.before.before.before.before.requires.0 in
     let t = g.before.title-given.ensures.0 in
     let d = g.list-given.ensures.0 in
-    (event-put _ _ _ r _ _ t d head.put-head.ensures title.put-title.ensures list.put-list.ensures, event-next _ _ _ r _ t d)
+    (event_put _ _ _ r _ _ t d head.put-head.ensures title.put-title.ensures list.put-list.ensures, event_next _ _ _ r _ t d)
 
 pub put-event-spec : {M : Type 1} → statement M
 put-event-spec =

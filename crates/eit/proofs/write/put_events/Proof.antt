@@ -7,7 +7,7 @@ use Rattle.format.specs.Repeats.{encs}
 use Rattle.format.specs.Formats.{any_bytes}
 use Rattle.eit.specs.Format.{event_of}
 use Rattle.eit.specs.Given.{events_given}
-use Rattle.eit.proofs.WriteLaws.{EventsLeft, event-left, events_step, events-done}
+use Rattle.eit.proofs.WriteLaws.{EventsLeft, event_left, events_step, events_done}
 use borrow.Author.Rules.{rules}
 use Rattle.eit.proofs.write.put_events.Statement.{statement}
 use Rattle.eit.proofs.write.put_events.Tie as tie
@@ -23,7 +23,7 @@ loop-holds : tie.Need-loop-init invariant-loop decreases-loop
 loop-holds c = let r = c.before.before.before.requires in record { given = r.0; same = refl; room = r.1; leads = refl }
 
 put-event-requires : tie.Need-put-event-requires invariant-loop decreases-loop
-put-event-requires c κs = event-left _ _ _ _ _ _ _ _ c.before.before.loop.invariant c.before.loop-test.true
+put-event-requires c κs = event_left _ _ _ _ _ _ _ _ c.before.before.loop.invariant c.before.loop-test.true
 
 add_a : tie.Need-overflow-add-a invariant-loop decreases-loop
 add_a c =
@@ -46,7 +46,7 @@ same_length : tie.Need-same-length invariant-loop decreases-loop
 same_length c = c.before.loop.invariant.same
 
 returns : tie.Need-returns invariant-loop decreases-loop
-returns c = events-done _ _ _ _ _ _ _ _ c.before.loop.invariant (omega (arith, c.loop-test.false))
+returns c = events_done _ _ _ _ _ _ _ _ c.before.loop.invariant (omega (arith, c.loop-test.false))
 
 pub put-events-spec : {M : Type 1} → statement M
 put-events-spec =

@@ -1,7 +1,7 @@
 -- `put_head` meets its contract.
 use native.Mathlib.Omega.{arith}
 use Rattle.eit.proofs.GivenLaws.{row_room}
-use Rattle.eit.proofs.WriteLaws.{head-put}
+use Rattle.eit.proofs.WriteLaws.{head_put}
 use borrow.Author.Rules.{rules}
 use Rattle.eit.proofs.write.put_head.Statement.{statement}
 use Rattle.eit.proofs.write.put_head.Tie as tie
@@ -69,7 +69,7 @@ returns c =
     let long = three.before.before.before.before.before.before in
     let word = long.before.before.before.before.before in
     let r = row_room _ _ word.before.before.before.before.before.requires.1.0 in
-    head-put _ _ r _ _ word.before.number_at.ensures.0 long.before.number-at2.ensures.0 three.before.before.number-at3.ensures.0
+    head_put _ _ r _ _ word.before.number_at.ensures.0 long.before.number-at2.ensures.0 three.before.before.number-at3.ensures.0
     three.before.number-at4.ensures.0 word.put_word.ensures long.put-long.ensures three.put_three.ensures
 
 pub put-head-spec : {M : Type 1} → statement M

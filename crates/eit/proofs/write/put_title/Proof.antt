@@ -1,5 +1,5 @@
 -- `put_title` meets its contract.
-use Rattle.eit.proofs.WriteLaws.{title-put}
+use Rattle.eit.proofs.WriteLaws.{title_put}
 use borrow.Author.Rules.{rules}
 use Rattle.eit.proofs.write.put_title.Statement.{statement}
 use Rattle.eit.proofs.write.put_title.Tie as tie
@@ -20,7 +20,7 @@ returns : tie.Need-returns
 returns c =
     let q = c.before.before in
     let w = q.before.before.before.before in
-    title-put _ _ w.before.before.before.before.requires.0.0 _ _ w.put_byte.ensures q.put-part.ensures
+    title_put _ _ w.before.before.before.before.requires.0.0 _ _ w.put_byte.ensures q.put-part.ensures
 
 pub put-title-spec : {M : Type 1} → statement M
 put-title-spec =

@@ -1,6 +1,6 @@
 -- `row_sound` meets its contract: the title, then the descriptors.
 use borrow.Author.Tests.{not-true, not-false}
-use Rattle.eit.proofs.GivenLaws.{title-bad, title-good}
+use Rattle.eit.proofs.GivenLaws.{title_bad, title_good}
 use borrow.Author.Rules.{rules}
 use Rattle.eit.proofs.write.row_sound.Statement.{statement}
 use Rattle.eit.proofs.write.row_sound.Tie as tie
@@ -12,7 +12,7 @@ title-sound-requires : tie.Need-title-sound-requires
 title-sound-requires c κs = search rules
 
 returns : tie.Need-returns
-returns c = title-bad _ _ _ c.before.before.title-given.ensures.0 c.before.title-sound.ensures (not-true _ c.if1.true)
+returns c = title_bad _ _ _ c.before.before.title-given.ensures.0 c.before.title_sound.ensures (not-true _ c.if1.true)
 
 list-given-requires : tie.Need-list-given-requires
 list-given-requires c κs = search rules
@@ -23,7 +23,7 @@ list-sound-requires c κs = search rules
 returns-2 : tie.Need-returns-2
 returns-2 c =
     let t = c.before.before.before in
-    title-good _ _ _ t.before.title-given.ensures.0 t.title-sound.ensures (not-false _ c.before.before.if1.false)
+    title_good _ _ _ t.before.title-given.ensures.0 t.title_sound.ensures (not-false _ c.before.before.if1.false)
     c.before.list-given.ensures.0 c.list-sound.ensures
 
 pub row-sound-spec : {M : Type 1} → statement M

@@ -5,7 +5,7 @@ use native.Mathlib.Omega.{arith}
 use lib.ListN.{length}
 use borrow.Author.Tests.{not-true, not-false}
 use Rattle.eit.specs.Given.{rows_sound}
-use Rattle.eit.proofs.GivenLaws.{each_sound, each_on, each-stop, each_none}
+use Rattle.eit.proofs.GivenLaws.{each_sound, each_on, each_stop, each_none}
 use borrow.Author.Rules.{rules}
 use Rattle.eit.proofs.write.rows_sound.Statement.{statement}
 use Rattle.eit.proofs.write.rows_sound.Tie as tie
@@ -25,7 +25,7 @@ row-sound-requires c κs = search rules
 returns : tie.Need-returns invariant-loop decreases-loop
 returns c =
     let w = c.before.before in
-    each-stop (each_sound _ _) _ _ w.loop-test.true (sym c.before.row_sound_lem.ensures ∙ not-true _ c.if1.true) ∙ w.before.loop.invariant.1
+    each_stop (each_sound _ _) _ _ w.loop-test.true (sym c.before.row_sound_lem.ensures ∙ not-true _ c.if1.true) ∙ w.before.loop.invariant.1
 
 add_a : tie.Need-overflow-add-a invariant-loop decreases-loop
 add_a c = search rules

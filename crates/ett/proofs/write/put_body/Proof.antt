@@ -1,6 +1,6 @@
 -- `put_body` meets its contract.
 use borrow.Author.Rules.{rules}
-use Rattle.ett.proofs.WritingLaws.{body-put}
+use Rattle.ett.proofs.WritingLaws.{body_put}
 use Rattle.ett.proofs.write.put_body.Statement.{statement}
 use Rattle.ett.proofs.write.put_body.Tie as tie
 
@@ -20,7 +20,7 @@ returns : tie.Need-returns
 returns c =
     let p = c.before.before.before.before.before.before in
     let g = p.before.before.before.before.args in
-    body-put g.etm g.text.now g.out.now g.at p.put-long.ensures c.before.before.put-part.ensures
+    body_put g.etm g.text.now g.out.now g.at p.put-long.ensures c.before.before.put-part.ensures
 
 pub put-body-spec : {M : Type 1} → statement M
 put-body-spec =

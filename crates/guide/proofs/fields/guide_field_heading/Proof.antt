@@ -1,5 +1,5 @@
 -- `guide_field_heading` meets its contract.
-use Rattle.telling.proofs.ToldLaws.{told-as}
+use Rattle.telling.proofs.ToldLaws.{told_as}
 use borrow.Author.Rules.{rules}
 use Rattle.guide.proofs.fields.guide_field_heading.Statement.{statement}
 use Rattle.guide.proofs.fields.guide_field_heading.Tie as tie
@@ -15,7 +15,7 @@ tell-heading-requires c κs = search rules
 
 returns : tie.Need-returns
 returns c = let k = c.before.before in
-    told-as (rw k.before.wide.ensures at k.string-heading.ensures) c.tell-heading.ensures
+    told_as (rw k.before.wide.ensures at k.string-heading.ensures) c.tell-heading.ensures
 
 pub guide-field-heading-spec : {M : Type 1} → statement M
 guide-field-heading-spec =

@@ -1,5 +1,5 @@
 -- `guide_field_text` meets its contract.
-use Rattle.telling.proofs.ToldLaws.{told-as}
+use Rattle.telling.proofs.ToldLaws.{told_as}
 use borrow.Author.Rules.{rules}
 use Rattle.guide.proofs.fields.guide_field_text.Statement.{statement}
 use Rattle.guide.proofs.fields.guide_field_text.Tie as tie
@@ -19,7 +19,7 @@ same_length c = search rules
 returns : tie.Need-returns
 returns c = let k = c.before.before.before.before in
     let e = rw k.before.before.wide.ensures at k.string-text.ensures in
-    (told-as e.0 c.tell-amount.ensures, e.1)
+    (told_as e.0 c.tell-amount.ensures, e.1)
 
 pub guide-field-text-spec : {M : Type 1} → statement M
 guide-field-text-spec =

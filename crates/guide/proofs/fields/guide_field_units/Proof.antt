@@ -1,5 +1,5 @@
 -- `guide_field_units` meets its contract.
-use Rattle.telling.proofs.ToldLaws.{told-as}
+use Rattle.telling.proofs.ToldLaws.{told_as}
 use borrow.Author.Rules.{rules}
 use Rattle.guide.proofs.fields.guide_field_units.Statement.{statement}
 use Rattle.guide.proofs.fields.guide_field_units.Tie as tie
@@ -15,7 +15,7 @@ tell-amount-requires c κs = search rules
 
 returns : tie.Need-returns
 returns c = let k = c.before.before in
-    told-as (rw k.before.wide.ensures at k.string-units.ensures) c.tell-amount.ensures
+    told_as (rw k.before.wide.ensures at k.string-units.ensures) c.tell-amount.ensures
 
 pub guide-field-units-spec : {M : Type 1} → statement M
 guide-field-units-spec =

@@ -1,6 +1,6 @@
 -- `guide_judge` meets its contract.
 use borrow.Author.Rules.{rules}
-use Rattle.telling.proofs.ToldLaws.{told-as}
+use Rattle.telling.proofs.ToldLaws.{told_as}
 use Rattle.guide.proofs.sections.guide_judge.Statement.{statement}
 use Rattle.guide.proofs.sections.guide_judge.Tie as tie
 
@@ -11,7 +11,7 @@ tell-header-requires : tie.Need-tell-header-requires
 tell-header-requires c κs = search rules
 
 returns : tie.Need-returns
-returns c = told-as c.before.before.judge-any.ensures c.tell-header.ensures
+returns c = told_as c.before.before.judge-any.ensures c.tell-header.ensures
 
 pub guide-judge-spec : {M : Type 1} → statement M
 guide-judge-spec =

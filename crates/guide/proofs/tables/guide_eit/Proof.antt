@@ -1,6 +1,6 @@
 -- `guide_eit` meets its contract.
 use borrow.Author.Rules.{rules}
-use Rattle.telling.proofs.ToldLaws.{told-as}
+use Rattle.telling.proofs.ToldLaws.{told_as}
 use Rattle.guide.proofs.tables.guide_eit.Statement.{statement}
 use Rattle.guide.proofs.tables.guide_eit.Tie as tie
 
@@ -11,7 +11,7 @@ tell-eit-requires : tie.Need-tell-eit-requires
 tell-eit-requires c κs = search rules
 
 returns : tie.Need-returns
-returns c = told-as c.before.before.fields.ensures c.tell-eit.ensures
+returns c = told_as c.before.before.fields.ensures c.tell-eit.ensures
 
 pub guide-eit-spec : {M : Type 1} → statement M
 guide-eit-spec =

@@ -1,6 +1,6 @@
 -- `guide_eit_event` meets its contract.
 use borrow.Author.Rules.{rules}
-use Rattle.telling.proofs.ToldLaws.{told-as}
+use Rattle.telling.proofs.ToldLaws.{told_as}
 use Rattle.guide.proofs.tables.guide_eit_event.Statement.{statement}
 use Rattle.guide.proofs.tables.guide_eit_event.Tie as tie
 
@@ -15,7 +15,7 @@ tell-event-requires c κs = search rules
 
 returns : tie.Need-returns
 returns c = let k = c.before.before in
-    told-as (rw k.before.wide.ensures at k.entry.ensures) c.tell-event.ensures
+    told_as (rw k.before.wide.ensures at k.entry.ensures) c.tell-event.ensures
 
 pub guide-eit-event-spec : {M : Type 1} → statement M
 guide-eit-event-spec =

@@ -1,6 +1,6 @@
 -- `guide_ett` meets its contract.
 use borrow.Author.Rules.{rules}
-use Rattle.telling.proofs.ToldLaws.{told-as}
+use Rattle.telling.proofs.ToldLaws.{told_as}
 use Rattle.guide.proofs.tables.guide_ett.Statement.{statement}
 use Rattle.guide.proofs.tables.guide_ett.Tie as tie
 
@@ -11,7 +11,7 @@ tell-ett-requires : tie.Need-tell-ett-requires
 tell-ett-requires c κs = search rules
 
 returns : tie.Need-returns
-returns c = told-as c.before.before.fields.ensures c.tell-ett.ensures
+returns c = told_as c.before.before.fields.ensures c.tell-ett.ensures
 
 pub guide-ett-spec : {M : Type 1} → statement M
 guide-ett-spec =

@@ -1,6 +1,6 @@
 -- `guide_mgt` meets its contract.
 use borrow.Author.Rules.{rules}
-use Rattle.telling.proofs.ToldLaws.{told-as}
+use Rattle.telling.proofs.ToldLaws.{told_as}
 use Rattle.guide.proofs.tables.guide_mgt.Statement.{statement}
 use Rattle.guide.proofs.tables.guide_mgt.Tie as tie
 
@@ -11,7 +11,7 @@ tell-mgt-requires : tie.Need-tell-mgt-requires
 tell-mgt-requires c κs = search rules
 
 returns : tie.Need-returns
-returns c = told-as c.before.before.fields.ensures c.tell-mgt.ensures
+returns c = told_as c.before.before.fields.ensures c.tell-mgt.ensures
 
 pub guide-mgt-spec : {M : Type 1} → statement M
 guide-mgt-spec =

@@ -1,6 +1,6 @@
 -- `guide_mgt_table` meets its contract.
 use borrow.Author.Rules.{rules}
-use Rattle.telling.proofs.ToldLaws.{told-as}
+use Rattle.telling.proofs.ToldLaws.{told_as}
 use Rattle.guide.proofs.tables.guide_mgt_table.Statement.{statement}
 use Rattle.guide.proofs.tables.guide_mgt_table.Tie as tie
 
@@ -15,7 +15,7 @@ tell-defined-requires c κs = search rules
 
 returns : tie.Need-returns
 returns c = let k = c.before.before in
-    told-as (rw k.before.wide.ensures at k.entry.ensures) c.tell-defined.ensures
+    told_as (rw k.before.wide.ensures at k.entry.ensures) c.tell-defined.ensures
 
 pub guide-mgt-table-spec : {M : Type 1} → statement M
 guide-mgt-table-spec =

@@ -1,6 +1,6 @@
 -- `guide_rrt_dimension` meets its contract.
 use borrow.Author.Rules.{rules}
-use Rattle.telling.proofs.ToldLaws.{told-as}
+use Rattle.telling.proofs.ToldLaws.{told_as}
 use Rattle.guide.proofs.tables.guide_rrt_dimension.Statement.{statement}
 use Rattle.guide.proofs.tables.guide_rrt_dimension.Tie as tie
 
@@ -15,7 +15,7 @@ tell-dimension-requires c κs = search rules
 
 returns : tie.Need-returns
 returns c = let k = c.before.before in
-    told-as (rw k.before.wide.ensures at k.entry.ensures) c.tell-dimension.ensures
+    told_as (rw k.before.wide.ensures at k.entry.ensures) c.tell-dimension.ensures
 
 pub guide-rrt-dimension-spec : {M : Type 1} → statement M
 guide-rrt-dimension-spec =

@@ -1,6 +1,6 @@
 -- `guide_rrt_value` meets its contract.
 use borrow.Author.Rules.{rules}
-use Rattle.telling.proofs.ToldLaws.{told-as}
+use Rattle.telling.proofs.ToldLaws.{told_as}
 use Rattle.guide.proofs.tables.guide_rrt_value.Statement.{statement}
 use Rattle.guide.proofs.tables.guide_rrt_value.Tie as tie
 
@@ -18,7 +18,7 @@ tell-value-requires c κs = search rules
 
 returns : tie.Need-returns
 returns c = let k = c.before.before in
-    told-as (rw (k.before.before.wide.ensures, k.before.wide2.ensures) at k.value.ensures) c.tell-value.ensures
+    told_as (rw (k.before.before.wide.ensures, k.before.wide2.ensures) at k.value.ensures) c.tell-value.ensures
 
 pub guide-rrt-value-spec : {M : Type 1} → statement M
 guide-rrt-value-spec =

@@ -1,6 +1,6 @@
 -- `guide_tvct_channel` meets its contract.
 use borrow.Author.Rules.{rules}
-use Rattle.telling.proofs.ToldLaws.{told-as}
+use Rattle.telling.proofs.ToldLaws.{told_as}
 use Rattle.guide.proofs.tables.guide_tvct_channel.Statement.{statement}
 use Rattle.guide.proofs.tables.guide_tvct_channel.Tie as tie
 
@@ -15,7 +15,7 @@ tell-channel-requires c κs = search rules
 
 returns : tie.Need-returns
 returns c = let k = c.before.before in
-    told-as (rw k.before.wide.ensures at k.entry.ensures) c.tell-channel.ensures
+    told_as (rw k.before.wide.ensures at k.entry.ensures) c.tell-channel.ensures
 
 pub guide-tvct-channel-spec : {M : Type 1} → statement M
 guide-tvct-channel-spec =

@@ -1,5 +1,5 @@
 -- `guide_heading` meets its contract.
-use Rattle.telling.proofs.ToldLaws.{told-refused, told-as}
+use Rattle.telling.proofs.ToldLaws.{told_refused, told_as}
 use Rattle.telling.specs.Texts.{of_text}
 use borrow.Author.Rules.{rules}
 use Rattle.guide.proofs.texts.guide_heading.Statement.{statement}
@@ -31,13 +31,13 @@ tell-heading-requires c κs = search rules
 
 returns : tie.Need-returns
 unfolding of_text
-returns c = told-refused _ _ _ _ _ (rw (← c.before.before.before.which-of.ensures, c.before.enum_told.given.1)) c.number_of_lem.ensures
+returns c = told_refused _ _ _ _ _ (rw (← c.before.before.before.which-of.ensures, c.before.enum_told.given.1)) c.number_of_lem.ensures
 
 returns-2 : tie.Need-returns-2
 unfolding of_text
 returns-2 c = let k = c.before.before in
     let h = k.before.before.before.before in
-    rw (← h.before.before.which-of.ensures, h.w.given.1) (told-as (rw k.before.wide.ensures at k.string-heading.ensures) c.tell-heading.ensures)
+    rw (← h.before.before.which-of.ensures, h.w.given.1) (told_as (rw k.before.wide.ensures at k.string-heading.ensures) c.tell-heading.ensures)
 
 pub guide-heading-spec : {M : Type 1} → statement M
 guide-heading-spec =

@@ -1,5 +1,5 @@
 -- `guide_strings` meets its contract.
-use Rattle.telling.proofs.ToldLaws.{told-refused, told-as}
+use Rattle.telling.proofs.ToldLaws.{told_refused, told_as}
 use Rattle.telling.specs.Texts.{of_text}
 use borrow.Author.Rules.{rules}
 use Rattle.guide.proofs.texts.guide_strings.Statement.{statement}
@@ -25,12 +25,12 @@ tell-count-requires c κs = search rules
 
 returns : tie.Need-returns
 unfolding of_text
-returns c = told-refused _ _ _ _ _ (rw (← c.before.before.before.which-of.ensures, c.before.enum_told.given.1)) c.number_of_lem.ensures
+returns c = told_refused _ _ _ _ _ (rw (← c.before.before.before.which-of.ensures, c.before.enum_told.given.1)) c.number_of_lem.ensures
 
 returns-2 : tie.Need-returns-2
 unfolding of_text
 returns-2 c = let h = c.before.before.before.before in
-    rw (← h.before.before.which-of.ensures, h.w.given.1) (told-as c.before.before.count-strings.ensures c.tell-count.ensures)
+    rw (← h.before.before.which-of.ensures, h.w.given.1) (told_as c.before.before.count-strings.ensures c.tell-count.ensures)
 
 pub guide-strings-spec : {M : Type 1} → statement M
 guide-strings-spec =

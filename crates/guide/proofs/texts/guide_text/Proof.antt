@@ -1,6 +1,6 @@
 -- `guide_text` meets its contract.
 use mathlib.Core.Path.{refl}
-use Rattle.telling.proofs.ToldLaws.{told-refused, told-as}
+use Rattle.telling.proofs.ToldLaws.{told_refused, told_as}
 use Rattle.telling.specs.Texts.{of_text}
 use Rattle.refusal.specs.Outputs.{output_after}
 use borrow.Author.Rules.{rules}
@@ -33,7 +33,7 @@ tell-amount-requires c κs = search rules
 
 returns : tie.Need-returns
 unfolding of_text output_after
-returns c = rw (← c.before.before.before.which-of.ensures, c.before.enum_told.given.1) (told-refused _ _ _ _ _ refl c.number_of_lem.ensures, refl)
+returns c = rw (← c.before.before.before.which-of.ensures, c.before.enum_told.given.1) (told_refused _ _ _ _ _ refl c.number_of_lem.ensures, refl)
 
 same_length : tie.Need-same-length
 same_length c = search rules
@@ -44,7 +44,7 @@ returns-2 c = let k = c.before.before.before.before in
     let e = rw k.before.before.wide.ensures at k.string-text.ensures in
     let h = k.before.before.before.before.before in
     rw (← h.before.before.which-of.ensures, h.w.given.1)
-    (told-as e.0 c.tell-amount.ensures, e.1)
+    (told_as e.0 c.tell-amount.ensures, e.1)
 
 pub guide-text-spec : {M : Type 1} → statement M
 guide-text-spec =

@@ -1,6 +1,6 @@
 -- `guide_titles` meets its contract.
 use borrow.Author.Rules.{rules}
-use Rattle.telling.proofs.ToldLaws.{told-as}
+use Rattle.telling.proofs.ToldLaws.{told_as}
 use Rattle.guide.proofs.titled.guide_titles.Statement.{statement}
 use Rattle.guide.proofs.titled.guide_titles.Tie as tie
 
@@ -18,7 +18,7 @@ same-length-2 c = search rules
 
 returns : tie.Need-returns
 returns c = let r = c.before.before.before.before.before.before.titles.ensures in
-    (told-as r.0 c.tell-counts.ensures, r.1)
+    (told_as r.0 c.tell-counts.ensures, r.1)
 
 pub guide-titles-spec : {M : Type 1} → statement M
 guide-titles-spec =

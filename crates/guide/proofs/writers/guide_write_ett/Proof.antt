@@ -1,5 +1,5 @@
 -- `guide_write_ett` meets its contract.
-use Rattle.telling.proofs.ToldLaws.{told-as}
+use Rattle.telling.proofs.ToldLaws.{told_as}
 use borrow.Author.Rules.{rules}
 use Rattle.guide.proofs.writers.guide_write_ett.Statement.{statement}
 use Rattle.guide.proofs.writers.guide_write_ett.Tie as tie
@@ -26,7 +26,7 @@ returns : tie.Need-returns
 returns c = let k = c.before.before.before.before in
     let n = k.before.before in
     let e = rw (n.wide.ensures, n.before.before.given-in.ensures) at k.write.ensures in
-    (told-as e.0 c.tell-length.ensures, e.1)
+    (told_as e.0 c.tell-length.ensures, e.1)
 
 pub guide-write-ett-spec : {M : Type 1} → statement M
 guide-write-ett-spec =

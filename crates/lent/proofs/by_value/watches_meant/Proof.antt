@@ -44,7 +44,7 @@ loop-less : tie.Need-loop-smaller invariant-loop decreases-loop
 loop-less c = search rules
 
 loop-again : tie.Need-loop-preserved invariant-loop decreases-loop
-loop-again c = (search rules, taken_step _ _ _ _ _ (omega (arith, c.before.before.before.before.before.well-formed.0.1.0.1)) (omega arith) c.before.before.before.loop.invariant.1 c.watch-meant.ensures)
+loop-again c = (search rules, taken_step _ _ _ _ _ (omega (arith, c.before.before.before.before.before.well_formed.0.1.0.1)) (omega arith) c.before.before.before.loop.invariant.1 c.watch-meant.ensures)
 
 returns : tie.Need-returns invariant-loop decreases-loop
 returns c = taken_end _ _ _ _ c.before.loop.invariant.0 c.loop-test.false c.before.loop.invariant.1

@@ -4,7 +4,7 @@ use mathlib.Core.Path.{sym, ◌∙◌}
 use borrow.Author.Tests.{not-false, not-true}
 use native.Mathlib.Omega.{arith}
 use Rattle.lent_memory.specs.Meaning.{shelf_in}
-use Rattle.lent.proofs.EndLaws.{broken_said, delivery-said, question_is}
+use Rattle.lent.proofs.EndLaws.{broken_said, delivery_said, question_is}
 use Rattle.lent_memory.proofs.RowLaws.{rows_fit}
 use Rattle.lent.proofs.on_book.deliver.Statement.{statement}
 use Rattle.lent.proofs.on_book.deliver.Tie as tie
@@ -47,7 +47,7 @@ same-length-4 : tie.Need-same-length-4
 same-length-4 c = search rules
 
 returns-2 : tie.Need-returns-2
-returns-2 c = delivery-said _ _ _ _ _ _ _ _ _ _ _ (sym c.before.before.before.before.before.before.before.before.before.before.before.before.before.before.call-fits.ensures ∙ not-false _ c.before.before.before.before.before.before.before.before.before.before.before.before.before.if1.false) c.before.before.before.before.before.before.before.before.before.before.before.shelf-in.ensures c.before.before.settle.ensures _ c.before.before.before.change-number.ensures _ _ c.before.before.before.before.before.before.before.before.before.number_at.ensures.0 c.before.before.before.before.before.before.before.before.deliver.ensures.0 c.before.before.before.before.before.before.before.before.deliver.ensures.1
+returns-2 c = delivery_said _ _ _ _ _ _ _ _ _ _ _ (sym c.before.before.before.before.before.before.before.before.before.before.before.before.before.before.call-fits.ensures ∙ not-false _ c.before.before.before.before.before.before.before.before.before.before.before.before.before.if1.false) c.before.before.before.before.before.before.before.before.before.before.before.shelf-in.ensures c.before.before.settle.ensures _ c.before.before.before.change-number.ensures _ _ c.before.before.before.before.before.before.before.before.before.number_at.ensures.0 c.before.before.before.before.before.before.before.before.deliver.ensures.0 c.before.before.before.before.before.before.before.before.deliver.ensures.1
 
 pub deliver-spec : {M : Type 1} → statement M
 deliver-spec =

@@ -8,7 +8,7 @@ use Rattle.shelf.specs.Answers.{After}
 use Rattle.lent_memory.specs.Inner.{SmallPart}
 use Rattle.lent_memory.proofs.ReplyLaws.{part_small}
 use Rattle.lent_memory.specs.Meaning.{shelf_in}
-use Rattle.lent.proofs.EndLaws.{broken_said, fetching-said, question_is, reply_is}
+use Rattle.lent.proofs.EndLaws.{broken_said, fetching_said, question_is, reply_is}
 use Rattle.lent_memory.proofs.RowLaws.{rows_fit}
 use Rattle.lent.proofs.on_book.fetch.Statement.{statement}
 use Rattle.lent.proofs.on_book.fetch.Tie as tie
@@ -54,7 +54,7 @@ same-length-4 : tie.Need-same-length-4
 same-length-4 c = search rules
 
 returns-2 : tie.Need-returns-2
-returns-2 c = fetching-said _ _ _ _ _ _ _ _ _ _ _ (sym c.before.before.before.before.before.before.before.before.before.before.before.before.before.before.before.before.call-fits.ensures ∙ not-false _ c.before.before.before.before.before.before.before.before.before.before.before.before.before.before.before.if1.false) c.before.before.before.before.before.before.before.before.before.before.before.before.before.shelf-in.ensures c.before.before.settle.ensures _ _ _ _ c.before.before.before.before.before.before.tell-fetched.ensures c.before.before.before.before.before.before.before.before.before.before.before.asked_in.ensures c.before.before.before.before.before.before.before.before.before.before.amount-in.ensures c.before.before.before.before.before.before.before.before.before.fetch.ensures
+returns-2 c = fetching_said _ _ _ _ _ _ _ _ _ _ _ (sym c.before.before.before.before.before.before.before.before.before.before.before.before.before.before.before.before.call-fits.ensures ∙ not-false _ c.before.before.before.before.before.before.before.before.before.before.before.before.before.before.before.if1.false) c.before.before.before.before.before.before.before.before.before.before.before.before.before.shelf-in.ensures c.before.before.settle.ensures _ _ _ _ c.before.before.before.before.before.before.tell-fetched.ensures c.before.before.before.before.before.before.before.before.before.before.before.asked_in.ensures c.before.before.before.before.before.before.before.before.before.before.amount-in.ensures c.before.before.before.before.before.before.before.before.before.fetch.ensures
 
 pub fetch_spec : {M : Type 1} → statement M
 fetch_spec =

@@ -3,7 +3,7 @@ use borrow.Author.Rules.{rules}
 use mathlib.Core.Path.{sym, ◌∙◌}
 use borrow.Author.Tests.{not-false, not-true}
 use Rattle.lent_memory.specs.Meaning.{shelf_in}
-use Rattle.lent.proofs.EndLaws.{broken_said, opening-said, question_is}
+use Rattle.lent.proofs.EndLaws.{broken_said, opening_said, question_is}
 use Rattle.lent_memory.proofs.RowLaws.{rows_fit}
 use Rattle.lent.proofs.on_book.open.Statement.{statement}
 use Rattle.lent.proofs.on_book.open.Tie as tie
@@ -49,7 +49,7 @@ same-length-4 : tie.Need-same-length-4
 same-length-4 c = search rules
 
 returns-2 : tie.Need-returns-2
-returns-2 c = opening-said _ _ _ _ _ _ _ _ _ _ _ (sym c.before.before.before.before.before.before.before.before.before.before.before.before.before.call-fits.ensures ∙ not-false _ c.before.before.before.before.before.before.before.before.before.before.before.before.if1.false) c.before.before.before.before.before.before.before.before.before.before.shelf-in.ensures c.before.before.settle.ensures _ c.before.before.before.change-number.ensures _ _ c.before.before.before.before.before.before.before.before.asked_in.ensures c.before.before.before.before.before.before.before.amount-in.ensures c.before.before.before.before.before.before.«open».ensures
+returns-2 c = opening_said _ _ _ _ _ _ _ _ _ _ _ (sym c.before.before.before.before.before.before.before.before.before.before.before.before.before.call-fits.ensures ∙ not-false _ c.before.before.before.before.before.before.before.before.before.before.before.before.if1.false) c.before.before.before.before.before.before.before.before.before.before.shelf-in.ensures c.before.before.settle.ensures _ c.before.before.before.change-number.ensures _ _ c.before.before.before.before.before.before.before.before.asked_in.ensures c.before.before.before.before.before.before.before.amount-in.ensures c.before.before.before.before.before.before.«open».ensures
 
 pub open_spec : {M : Type 1} → statement M
 open_spec =

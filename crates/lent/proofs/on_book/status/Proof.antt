@@ -8,7 +8,7 @@ use Rattle.shelf.specs.Views.{Status}
 use Rattle.lent_memory.specs.Inner.{SmallStatus}
 use Rattle.lent_memory.proofs.ReplyLaws.{status_small}
 use Rattle.lent_memory.specs.Meaning.{shelf_in}
-use Rattle.lent.proofs.EndLaws.{broken_said, asking-said, question_is, reply_is}
+use Rattle.lent.proofs.EndLaws.{broken_said, asking_said, question_is, reply_is}
 use Rattle.lent_memory.proofs.RowLaws.{rows_fit}
 use Rattle.lent.proofs.on_book.status.Statement.{statement}
 use Rattle.lent.proofs.on_book.status.Tie as tie
@@ -51,7 +51,7 @@ same-length-4 : tie.Need-same-length-4
 same-length-4 c = search rules
 
 returns-2 : tie.Need-returns-2
-returns-2 c = asking-said _ _ _ _ _ _ _ _ _ _ _ (sym c.before.before.before.before.before.before.before.before.before.before.before.before.before.before.before.call-fits.ensures ∙ not-false _ c.before.before.before.before.before.before.before.before.before.before.before.before.before.before.if1.false) c.before.before.before.before.before.before.before.before.before.before.before.before.shelf-in.ensures c.before.before.settle.ensures _ _ _ c.before.before.before.before.before.before.tell-status.ensures c.before.before.before.before.before.before.before.before.before.before.asked_in.ensures c.before.before.before.before.before.before.before.before.before.status.ensures
+returns-2 c = asking_said _ _ _ _ _ _ _ _ _ _ _ (sym c.before.before.before.before.before.before.before.before.before.before.before.before.before.before.before.call-fits.ensures ∙ not-false _ c.before.before.before.before.before.before.before.before.before.before.before.before.before.before.if1.false) c.before.before.before.before.before.before.before.before.before.before.before.before.shelf-in.ensures c.before.before.settle.ensures _ _ _ c.before.before.before.before.before.before.tell-status.ensures c.before.before.before.before.before.before.before.before.before.before.asked_in.ensures c.before.before.before.before.before.before.before.before.before.status.ensures
 
 pub status-spec : {M : Type 1} → statement M
 status-spec =

@@ -59,7 +59,7 @@ word = ty_int w64
 abbrev slice : Ty
 slice = slice_ty (ty_ref (named 0) mut (pointee R.written))
 
-module _ {M : Type 1} {𝓤 : Ura M} (𝓛 : Logic 𝓤) (mem : Memory → SProp 𝓤) (run : Routine → Fun 𝓤) (κ : Lft) (q : Share) (b o : ℕ) (γ : GName) (ys : List LentWatch) (i : ℕ) (v : LentWatch) (i-fits : i < 2 ^ 64) (v-is : Is R v (vals v)) (room : Room R (length ys)) where
+module _ {M : Type 1} {𝓤 : Ura M} (𝓛 : Logic 𝓤) (mem : Memory → SProp 𝓤) (run : Routine → Fun 𝓤) (κ : Lft) (q : Share) (b o : ℕ) (γ : GName) (ys : List LentWatch) (i : ℕ) (v : LentWatch) (i-fits : i < 2 ^ 64) (v_is : Is R v (vals v)) (room : Room R (length ys)) where
   open 𝓛 use {H}
 
   abbrev Arg : Type 0
@@ -83,7 +83,7 @@ module _ {M : Type 1} {𝓤 : Ura M} (𝓛 : Logic 𝓤) (mem : Memory → SProp
       suffices ! _ (ends_at 𝓛 f.ended stayed (f.clauses 𝓛 mem run) (((κ, tt), (q, tt), tt, a, at), tt) vunit tt (zs, (tt, (tt, tt))) (len, (tt, (tt, tt)))) $ says ! e $
       nothing ! $ move ! (3 ∷ 0 ∷ []) $ join ! $ frame ! $
       fjoin ! $ pure_i ! (mut_slice_at R (x zs) at.0) (tt, (tt, tt)) (ap (λ (m : ℕ). slice_val (b, o) m ∷ []) (sym len), subst (Room R) (sym len) room) $ fjoin ! $
-      nothing ! $ owned ! R (Is R) (makes 𝓛) v _ v-is $ fjoin ! $ owned ! usize (Is usize) (uint_Makes 𝓛 w64) i _ (refl, i-fits) $ fjoin ! $ move ! (1 ∷ 0 ∷ []) $ fjoin ! $
+      nothing ! $ owned ! R (Is R) (makes 𝓛) v _ v_is $ fjoin ! $ owned ! usize (Is usize) (uint_Makes 𝓛 w64) i _ (refl, i-fits) $ fjoin ! $ move ! (1 ∷ 0 ∷ []) $ fjoin ! $
       feq_i ! (List Val) (vunit ∷ []) (vunit ∷ []) refl $ move ! (1 ∷ 0 ∷ []) $ done !
 
   module _ (C : Calls 𝓤 H) (Λ : Loops 𝓤 H) where
@@ -104,7 +104,7 @@ module _ {M : Type 1} {𝓤 : Ura M} (𝓛 : Logic 𝓤) (mem : Memory → SProp
     walk =
         qed 𝓛 ((‵ (flft κ q) ⊛ ‵ ftrue) ∷ ‵ (owns (MutSlice (named 0) κ R ∷ usize ∷ R ∷ []) a at) ∷ []) ∵ enter ! C Λ code.function (slice_val (b, o) (length ys) ∷ vint w64 i ∷ val v ∷ []) _ $
         alloc1 ! (λ l₀. alloc1 ! (λ l₁. alloc1 ! (λ l₂. alloc1 ! (λ l₃. alloc1 ! (λ l₄. alloc1 ! (λ l₅. alloc1 ! (λ l₆. alloc1 ! (λ l₇. alloc0 ! $ params1 ! $
-        pass1 ! (init ! 12 refl (tt, (tt, (record { fits = room.0 }, tt)))) $ pass1 ! (init ! 10 refl (tt, record { fits = i-fits })) $ pass1 ! (init ! 8 refl ((lawful 𝓛).typed v _ v-is).0) $ pass0 ! $
+        pass1 ! (init ! 12 refl (tt, (tt, (record { fits = room.0 }, tt)))) $ pass1 ! (init ! 10 refl (tt, record { fits = i-fits })) $ pass1 ! (init ! 8 refl ((lawful 𝓛).typed v _ v_is).0) $ pass0 ! $
         move ! (17 ∷ []) $ fsplit ! $ fsplit ! $ move ! (1 ∷ []) $ fsplit ! $ move ! (20 ∷ []) $ split ! $ move ! (2 ∷ 3 ∷ 0 ∷ []) $
         -- [obs; the borrow; the token; true; ws's fact; i's and w's; _7; …; _6; …; _5; …; _4; …; _3; …; _2; …; _1; …; _0; …]
         assigns ! (of_opd ! (load ! (from ! (fld ! refl (stop !))) (look_in ! 18 (sub ! 1 refl (whole !))))) (from ! (stop !)) (init ! 12 refl (tt, record { fits = room.0 })) $
@@ -116,9 +116,9 @@ module _ {M : Type 1} {𝓤 : Ura M} (𝓛 : Logic 𝓤) (mem : Memory → SProp
         assigns ! (bin ! (load ! (from ! (fld ! refl (stop !))) (look_in ! 18 (sub ! 0 refl (whole !)))) (load ! (from ! (stop !)) (look ! 8 refl)) tt) (from ! (stop !)) (init ! 6 refl (tt, tt)) $
         rewrite ! 6 (λ (p : ℕ). ‵ (fat full_share ty_ptr l₇ 0 (vptr b p))) (sym (place_at o i)) refl $
         opens_slice ! tt R ys b o $ elem_out ! R (Is R) (shows 𝓛 R) vals tells full_share ys i blank b o l (λ _.
-        assigns_last ! (of_opd ! (load ! (from ! (stop !)) (look ! 17 refl))) (from ! (hop ! (look ! 9 refl) (stop !))) (store_raw ! 0 refl ((lawful 𝓛).typed v _ v-is).0) $
+        assigns_last ! (of_opd ! (load ! (from ! (stop !)) (look ! 17 refl))) (from ! (hop ! (look ! 9 refl) (stop !))) (store_raw ! 0 refl ((lawful 𝓛).typed v _ v_is).0) $
         exec ! C Λ ((ty_unit, l₀) ∷ (slice, l₁) ∷ (word, l₂) ∷ (T'.mir, l₃) ∷ (word, l₄) ∷ (ty_bool, l₅) ∷ (word, l₆) ∷ (ty_ptr, l₇) ∷ []) body.t-4 (at_ret ((ty_unit, l₀) ∷ (slice, l₁) ∷ (word, l₂) ∷ (T'.mir, l₃) ∷ (word, l₄) ∷ (ty_bool, l₅) ∷ (word, l₆) ∷ (ty_ptr, l₇) ∷ []) Post) $
-        move ! (1 ∷ []) $ drop ! $ owned ! R (Is R) (makes 𝓛) v _ v-is $ move ! (1 ∷ 0 ∷ []) $ elem_put ! R full_share ys i v (vals v) b o l $
+        move ! (1 ∷ []) $ drop ! $ owned ! R (Is R) (makes 𝓛) v _ v_is $ move ! (1 ∷ 0 ∷ []) $ elem_put ! R full_share ys i v (vals v) b o l $
         closes_slice ! tt R ys (set ys i v) (length-set ys i v) b o $
         forget ! 6 refl $ forget ! 8 refl $ forget ! 10 refl $ forget ! 12 refl $ forget ! 14 refl $ forget ! 16 refl $ forget ! 18 refl $
         keep ! (0 ∷ 1 ∷ 2 ∷ 6 ∷ 7 ∷ 8 ∷ 9 ∷ 10 ∷ 11 ∷ 12 ∷ 13 ∷ 14 ∷ 15 ∷ 16 ∷ 17 ∷ 18 ∷ 19 ∷ 20 ∷ 21 ∷ []) $ leaves (set ys i v) refl (length-set ys i v) l₀ l₁ l₂ l₃ l₄ l₅ l₆ l₇))

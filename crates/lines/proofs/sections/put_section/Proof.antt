@@ -3,7 +3,7 @@ use mathlib.Core.Path.{sym, ap, ◌∙◌}
 use native.Mathlib.Omega.{arith}
 use Rattle.section.specs.Answers.{head_outcome}
 use Rattle.lines.specs.Lines.{outcome_shown}
-use Rattle.lines.proofs.SectionLaws.{no-pid, a-pid}
+use Rattle.lines.proofs.SectionLaws.{no_pid, a_pid}
 use borrow.Author.Rules.{rules}
 use Rattle.lines.proofs.sections.put_section.Statement.{statement}
 use Rattle.lines.proofs.sections.put_section.Tie as tie
@@ -18,7 +18,7 @@ returns : tie.Need-returns
 returns c =
     let d = c.before.before.before.before in
     let a = d.before.before.before.args in
-    rw (no-pid a.pid a.s.now (omega (arith, d.if1.true))) at c.before.before.put-refusal.ensures
+    rw (no_pid a.pid a.s.now (omega (arith, d.if1.true))) at c.before.before.put-refusal.ensures
 
 judge-any-requires : tie.Need-judge-any-requires
 judge-any-requires c κs = search rules
@@ -45,7 +45,7 @@ unfolding outcome_shown
 returns-2 c =
     let d = c.before.before.before.before.before in
     let j = sym d.before.before.judge-any.ensures ∙ ap head_outcome d.k.given.1 in
-    rw (a-pid d.before.before.before.before.before.before.args.pid _ _ (omega (arith, d.before.before.before.if1.false)) j) at c.before.before.put-refusal2.ensures
+    rw (a_pid d.before.before.before.before.before.before.args.pid _ _ (omega (arith, d.before.before.before.if1.false)) j) at c.before.before.put-refusal2.ensures
 
 same-length-3 : tie.Need-same-length-3
 same-length-3 c = search rules
@@ -54,7 +54,7 @@ returns-3 : tie.Need-returns-3
 returns-3 c =
     let d = c.before.before.before.before.before in
     let j = sym d.before.before.judge-any.ensures ∙ ap head_outcome d.h.given.1 in
-    rw (a-pid d.before.before.before.before.before.before.args.pid _ _ (omega (arith, d.before.before.before.if1.false)) j) at c.before.before.put-sound.ensures
+    rw (a_pid d.before.before.before.before.before.before.args.pid _ _ (omega (arith, d.before.before.before.if1.false)) j) at c.before.before.put-sound.ensures
 
 pub put-section-spec : {M : Type 1} → statement M
 put-section-spec =

@@ -32,7 +32,7 @@ unfolding defined_end
 returns c =
     let q = c.before.before.before in
     let n = q.before.before.before.before.before in
-    (c.list-end.ensures.0, q.put-part.ensures ∙ row_stored _ _ _ _ _ _ n.put-numbers.ensures q.before.descriptors-at.ensures.0)
+    (c.list_end_lem.ensures.0, q.put-part.ensures ∙ row_stored _ _ _ _ _ _ n.put-numbers.ensures q.before.descriptors-at.ensures.0)
 
 pub put-row-spec : {M : Type 1} → statement M
 put-row-spec =

@@ -3,7 +3,7 @@ use mathlib.Core.Path.{◌≡◌, refl, ◌∙◌}
 use native.Mathlib.Omega.{arith}
 use borrow.Author.Rules.{rules}
 use Rattle.bytes_at.specs.Walks.{many}
-use Rattle.bytes_at.proofs.WalkLaws.{goes, many-go, many-bad, many-none}
+use Rattle.bytes_at.proofs.WalkLaws.{goes, many_go, many_bad, many_none}
 use Rattle.format.specs.Formats.{walks}
 use Rattle.mgt.specs.Walked.{defined}
 use Rattle.mgt.proofs.walk.past.Statement.{statement}
@@ -31,7 +31,7 @@ returns : tie.Need-returns invariant-loop decreases-loop
 returns c =
     let d = c.before.before in
     let l = d.before.before.loop in
-    many-bad _ l.left l.at _ _ (omega arith) d.one-defined.ensures c.enum_told.given.1 ∙ l.invariant
+    many_bad _ l.left l.at _ _ (omega arith) d.one-defined.ensures c.enum_told.given.1 ∙ l.invariant
 
 sub-left : tie.Need-overflow-sub-left invariant-loop decreases-loop
 sub-left c = omega arith
@@ -43,10 +43,10 @@ loop-again : tie.Need-loop-preserved invariant-loop decreases-loop
 loop-again c =
     let d = c.before.before.before in
     let l = d.before.before.loop in
-    many-go _ l.left l.at _ (omega arith) (goes d.one-defined.ensures c.before.w.given.1) ∙ l.invariant
+    many_go _ l.left l.at _ (omega arith) (goes d.one-defined.ensures c.before.w.given.1) ∙ l.invariant
 
 returns-2 : tie.Need-returns-2 invariant-loop decreases-loop
-returns-2 c = many-none _ _ _ (omega arith) ∙ c.before.loop.invariant
+returns-2 c = many_none _ _ _ (omega arith) ∙ c.before.loop.invariant
 
 pub past-spec : {M : Type 1} → statement M
 past-spec =

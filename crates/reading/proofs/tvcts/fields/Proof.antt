@@ -3,7 +3,7 @@ use mathlib.Core.Path.{sym, ap, ◌∙◌}
 use Rattle.refusal.specs.Outcomes.{after}
 use Rattle.section.specs.Answers.{head_outcome}
 use Rattle.entry.specs.declared.Entry.TheVariants.{Channel}
-use Rattle.entry.proofs.EntryLaws.{judged-begins}
+use Rattle.entry.proofs.EntryLaws.{judged_begins}
 use Rattle.reading.specs.Tvcts.{fields_of}
 use borrow.Author.Rules.{rules}
 use Rattle.reading.proofs.tvcts.fields.Statement.{statement}
@@ -21,7 +21,7 @@ enum-known-h c = search rules
 fields-in-requires : tie.Need-fields-in-requires
 fields-in-requires c κs =
     let j = c.before.before.before in
-    judged-begins Channel j.before.before.args.s.now _ (sym j.judge-kind.ensures ∙ ap head_outcome c.before.h.given.1)
+    judged_begins Channel j.before.before.args.s.now _ (sym j.judge-kind.ensures ∙ ap head_outcome c.before.h.given.1)
 
 returns : tie.Need-returns
 unfolding fields_of after

@@ -7,7 +7,7 @@ use lib.Seq.{sets}
 use Rattle.rrt.proofs.EndLaws.{dimension_values}
 use Rattle.rows.specs.Values.{dimension_rows}
 use Rattle.rows.proofs.RowsLaws.{dimension_stands}
-use Rattle.rows.proofs.ValuesLaws.{DimensionsLeft, dimensions_begin, dimensions-room, dimensions-next, dimensions-done}
+use Rattle.rows.proofs.ValuesLaws.{DimensionsLeft, dimensions_begin, dimensions_room, dimensions_next, dimensions_done}
 use Rattle.rows.proofs.values.put_dimensions.Statement.{statement}
 use Rattle.rows.proofs.values.put_dimensions.Tie as tie
 
@@ -38,7 +38,7 @@ put-values-requires c κs =
     let l = b.loop.invariant in
     let r = b.before.before.before.requires.0.0 in
     let d = dimension_stands _ _ _ (omega (arith, t)) l.entries in
-    let room = dimensions-room _ _ _ _ _ _ _ _ l (omega (arith, t)) in (
+    let room = dimensions_room _ _ _ _ _ _ _ _ l (omega (arith, t)) in (
       ((omega (arith, t, r), v.1), (rw (v.0, f.first-value.ensures) (dimension_values _ _ d), l.entries.small)),
       rw v.0 room,
     )
@@ -50,7 +50,7 @@ add-p : tie.Need-overflow-add-p invariant-loop decreases-loop
 add-p c =
     let v = c.before.before.before.before.before in
     let l = v.before.before.loop.invariant in
-    let r = dimensions-room _ _ _ _ _ _ _ _ l (omega (arith, v.before.loop-test.true)) in
+    let r = dimensions_room _ _ _ _ _ _ _ _ l (omega (arith, v.before.loop-test.true)) in
     omega (arith, r, l.same, v.values.ensures.0)
 
 add-i : tie.Need-overflow-add-i invariant-loop decreases-loop
@@ -66,14 +66,14 @@ loop-again c =
     let v = f.before in
     let t = v.before.loop-test.true in
     let l = v.before.before.loop.invariant in
-    dimensions-next _ _ _ _ _ _ _ _ l _ _ _ _ _ (omega (arith, t)) v.values.ensures.0 f.first-value.ensures
+    dimensions_next _ _ _ _ _ _ _ _ l _ _ _ _ _ (omega (arith, t)) v.values.ensures.0 f.first-value.ensures
     q.put-values.ensures.1 q.put-values.ensures.0 (omega (arith, t))
 
 same_length : tie.Need-same-length invariant-loop decreases-loop
 same_length c = c.before.loop.invariant.same
 
 returns : tie.Need-returns invariant-loop decreases-loop
-returns c = dimensions-done _ _ _ _ _ _ _ _ c.before.loop.invariant (omega (arith, c.loop-test.false))
+returns c = dimensions_done _ _ _ _ _ _ _ _ c.before.loop.invariant (omega (arith, c.loop-test.false))
 
 pub put-dimensions-spec : {M : Type 1} → statement M
 put-dimensions-spec =

@@ -7,7 +7,7 @@ use lib.Seq.{sets}
 use Rattle.rrt.specs.Fields.{values_end}
 use Rattle.rrt.proofs.EndLaws.{values_step}
 use Rattle.rows.specs.Values.{value_rows}
-use Rattle.rows.proofs.ValuesLaws.{ValuesLeft, values_begin, values-room, values-next, values-done}
+use Rattle.rows.proofs.ValuesLaws.{ValuesLeft, values_begin, values_room, values_next, values_done}
 use Rattle.rows.proofs.values.put_values.Statement.{statement}
 use Rattle.rows.proofs.values.put_values.Tie as tie
 
@@ -29,13 +29,13 @@ put-value-requires c κs =
     let r = c.before.before.before.before.before.requires in
     let t = c.before.loop-test.true in (
       ((r.0.0.0, omega (arith, t, r.0.0.1)), ((values_step _ _ _ (omega (arith, t)) l.stand).0, r.0.1.1)),
-      values-room _ _ _ _ _ _ _ _ _ _ l (omega (arith, t)),
+      values_room _ _ _ _ _ _ _ _ _ _ l (omega (arith, t)),
     )
 
 add-q : tie.Need-overflow-add-q invariant-loop decreases-loop
 add-q c =
     let l = c.before.before.before.before.before.loop.invariant in
-    let r = values-room _ _ _ _ _ _ _ _ _ _ l (omega (arith, c.before.before.before.before.loop-test.true)) in
+    let r = values_room _ _ _ _ _ _ _ _ _ _ l (omega (arith, c.before.before.before.before.loop-test.true)) in
     omega (arith, r, l.same)
 
 add-j : tie.Need-overflow-add-j invariant-loop decreases-loop
@@ -49,13 +49,13 @@ loop-again c =
     let l = c.before.before.before.before.before.loop.invariant in
     let t = c.before.before.before.before.loop-test.true in
     let q = c.before.before.put-value.ensures in
-    values-next _ _ _ _ _ _ _ _ _ _ l _ _ _ (omega (arith, t)) q.1 q.0 (omega (arith, t))
+    values_next _ _ _ _ _ _ _ _ _ _ l _ _ _ (omega (arith, t)) q.1 q.0 (omega (arith, t))
 
 same_length : tie.Need-same-length invariant-loop decreases-loop
 same_length c = c.before.loop.invariant.same
 
 returns : tie.Need-returns invariant-loop decreases-loop
-returns c = values-done _ _ _ _ _ _ _ _ _ _ c.before.loop.invariant (omega (arith, c.loop-test.false))
+returns c = values_done _ _ _ _ _ _ _ _ _ _ c.before.loop.invariant (omega (arith, c.loop-test.false))
 
 pub put-values-spec : {M : Type 1} → statement M
 put-values-spec =

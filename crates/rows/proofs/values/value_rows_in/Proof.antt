@@ -1,7 +1,7 @@
 -- `value_rows_in` meets its contract: 12, or the rows.
 use native.Mathlib.Omega.{arith}
 use borrow.Author.Rules.{rules}
-use Rattle.rows.proofs.ValuesLaws.{dimensions_few, values-short, values-fit}
+use Rattle.rows.proofs.ValuesLaws.{dimensions_few, values_short, values_fit}
 use Rattle.rows.proofs.values.value_rows_in.Statement.{statement}
 use Rattle.rows.proofs.values.value_rows_in.Tie as tie
 
@@ -26,7 +26,7 @@ returns c =
     let f = c.before.before in
     let a = f.before.before.before.before.args in
     let e = rw (f.before.count_of.ensures, f.first_of.ensures) at c.before.count-values.ensures.0 in
-    values-short a.s.now a.out.now _ e c.if1.true
+    values_short a.s.now a.out.now _ e c.if1.true
 
 put-dimensions-requires : tie.Need-put-dimensions-requires
 put-dimensions-requires c κs =
@@ -48,7 +48,7 @@ returns-2 c =
     let n = f.before.count_of.ensures in
     let e = rw (n, f.first_of.ensures) at i.before.count-values.ensures.0 in
     let p = rw (n, f.first_of.ensures) at c.before.before.put-dimensions.ensures in
-    values-fit a.s.now a.out.now _ e _ i.if1.false p
+    values_fit a.s.now a.out.now _ e _ i.if1.false p
 
 pub value-rows-in-spec : {M : Type 1} → statement M
 value-rows-in-spec =

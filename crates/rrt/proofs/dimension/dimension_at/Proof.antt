@@ -14,7 +14,7 @@ byte-requires : tie.Need-byte-requires
 byte-requires c κs = search rules
 
 returns : tie.Need-returns
-returns c = dimension_is _ _ _ _ _ c.before.before.text_at.ensures.0 c.before.text-end.ensures.0 c.byte.ensures.0 c.byte.ensures.1.1
+returns c = dimension_is _ _ _ _ _ c.before.before.text_at.ensures.0 c.before.text_end_lem.ensures.0 c.byte.ensures.0 c.byte.ensures.1.1
 
 pub dimension-at-spec : {M : Type 1} → statement M
 dimension-at-spec = tie.close (tie.spec text-at-requires text-end-requires byte-requires returns)

@@ -15,7 +15,7 @@ text-at-requires-2 c κs = search rules
 
 returns : tie.Need-returns
 unfolding texts_at
-returns c = rw (c.before.before.text_at.ensures.0, c.text-at2.ensures.0, c.before.text-end.ensures.0)
+returns c = rw (c.before.before.text_at.ensures.0, c.text-at2.ensures.0, c.before.text_end_lem.ensures.0)
 
 pub texts-at-spec : {M : Type 1} → statement M
 texts-at-spec = tie.close (tie.spec text-at-requires text-end-requires text-at-requires-2 returns)

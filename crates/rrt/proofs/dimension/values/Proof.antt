@@ -11,7 +11,7 @@ byte-requires : tie.Need-byte-requires
 byte-requires c κs = search rules
 
 returns : tie.Need-returns
-returns c = (rw (← c.before.text-end.ensures.0, ← c.byte.ensures.0), omega arith)
+returns c = (rw (← c.before.text_end_lem.ensures.0, ← c.byte.ensures.0), omega arith)
 
 pub values-spec : {M : Type 1} → statement M
 values-spec = tie.close (tie.spec text-end-requires byte-requires returns)

@@ -40,7 +40,7 @@ returns c =
     let n2 = n4.before.before in
     let n1 = n2.before.before in
     let x = n1.before in
-    let e = dimension_is _ _ _ _ _ x.before.before.text_at.ensures.0 x.before.text-end.ensures.0 x.byte.ensures.0 x.byte.ensures.1.1 in
+    let e = dimension_is _ _ _ _ _ x.before.before.text_at.ensures.0 x.before.text_end_lem.ensures.0 x.byte.ensures.0 x.byte.ensures.1.1 in
     q.put4.ensures ∙ rw (n1.narrow.ensures, n2.narrow2.ensures, n4.before.narrow3.ensures, n4.narrow4.ensures) (dimension_row_lem _ _ _ _ _ e)
 
 pub put-numbers-spec : {M : Type 1} → statement M

@@ -35,7 +35,7 @@ unfolding texts_row texts_at
 returns c =
     let u = c.before.before.before in
     let t = u.before.before.before.before.before in
-    let b = t.before.before.before.text-end.ensures.0 in (
+    let b = t.before.before.before.text_end_lem.ensures.0 in (
       rw (← b) c.text-end2.ensures.0,
       u.put-part2.ensures ∙ parts_stored _ _ _ _ _ t.put-part.ensures ∙ rw (t.before.text_at.ensures.0, u.before.text-at2.ensures.0, b),
     )

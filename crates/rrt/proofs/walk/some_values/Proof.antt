@@ -8,7 +8,7 @@ zero-count-requires : tie.Need-zero-count-requires
 zero-count-requires c κs = search rules
 
 returns : tie.Need-returns
-returns c = rw (eq-eqb _ _ c.before.if1.true) c.zero-count.ensures
+returns c = rw (eq-eqb _ _ c.before.if1.true) c.zero_count.ensures
 
 past-values-requires : tie.Need-past-values-requires
 past-values-requires c κs = search rules

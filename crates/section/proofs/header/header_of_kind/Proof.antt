@@ -1,6 +1,6 @@
 -- `header_of_kind` meets its contract: 1, then the others.
 use native.Mathlib.Omega.{arith}
-use Rattle.section.proofs.TestLaws.{too_short, long-enough}
+use Rattle.section.proofs.TestLaws.{too_short, long_enough}
 use borrow.Author.Rules.{rules}
 use Rattle.section.proofs.header.header_of_kind.Statement.{statement}
 use Rattle.section.proofs.header.header_of_kind.Tie as tie
@@ -18,7 +18,7 @@ of-found-requires : tie.Need-of-found-requires
 of-found-requires c κs = search rules
 
 returns-2 : tie.Need-returns-2
-returns-2 c = long-enough _ _ (omega arith)
+returns-2 c = long_enough _ _ (omega arith)
     (rw (← c.before.before.byte.ensures.0, ← c.before.only.ensures) c.of-found.ensures)
 
 pub header-of-kind-spec : {M : Type 1} → statement M

@@ -1,7 +1,7 @@
 -- `field_of` meets its contract: the section is judged, then the text found.
 use mathlib.Core.Path.{sym, ap, ◌∙◌}
 use Rattle.refusal.specs.Outcomes.{after}
-use Rattle.kind.specs.Kinds.{only_of}
+use Rattle.kind.specs.Kinds.{onlyOf}
 use Rattle.section.specs.Answers.{head_outcome}
 use Rattle.section.specs.Sections.{section_by}
 use Rattle.section_text.specs.Fields.{field_of}
@@ -27,7 +27,7 @@ field-in-requires c κs =
     let j = c.before.before.before in
     let s = j.before.before.before.args.s.now in
     judged_begun s j.before.before.before.args.which _
-    (ap (λ k. section_by (only_of k) s) (sym j.before.kind-for.ensures) ∙ sym j.judge-kind.ensures ∙ ap head_outcome c.before.-h.given.1)
+    (ap (λ k. section_by (onlyOf k) s) (sym j.before.kind-for.ensures) ∙ sym j.judge-kind.ensures ∙ ap head_outcome c.before.-h.given.1)
 
 returns : tie.Need-returns
 unfolding field_of after

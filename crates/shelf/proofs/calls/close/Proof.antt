@@ -4,7 +4,7 @@ use mathlib.Core.Path.{◌∙◌, ap, refl, sym}
 use native.Mathlib.Omega.{arith}
 use borrow.Author.Tests.{not-false, not-true}
 use borrow.Author.Rules.{rules}
-use Rattle.logic.proofs.LoopLaws.{any-no, any-yes}
+use Rattle.logic.proofs.LoopLaws.{any_no, any_yes}
 use Rattle.shelf_state.proofs.RuleLaws.{rules_of}
 use Rattle.shelf_state.specs.Records.{blank_watch}
 use Rattle.shelf_state.specs.Searches.{dropped, set_watch}
@@ -25,14 +25,14 @@ find-watch-requires c κs = (rules_of _ _ _ c.before.before.obeys-rules.ensures 
 
 returns-2 : tie.Need-returns-2
 unfolding closed
-returns-2 c = go_on _ _ _ _ (sym c.before.before.before.before.obeys-rules.ensures ∙ not-false _ c.before.before.before.if1.false) (stop _ _ _ _ (any-no _ _ c.before.find-watch.ensures c.if2.true) refl)
+returns-2 c = go_on _ _ _ _ (sym c.before.before.before.before.obeys-rules.ensures ∙ not-false _ c.before.before.before.if1.false) (stop _ _ _ _ (any_no _ _ c.before.find-watch.ensures c.if2.true) refl)
 
 without-requires : tie.Need-without-requires
 without-requires c κs = let z = (rules_of _ _ _ c.before.before.before.before.obeys-rules.ensures c.before.before.before.if1.false).size in (omega (arith, z.records_16, c.if2.false), z.count_64)
 
 returns-3 : tie.Need-returns-3
 unfolding closed
-returns-3 c = go_on _ _ _ _ (sym c.before.before.before.before.before.obeys-rules.ensures ∙ not-false _ c.before.before.before.before.if1.false) (go_on _ _ _ _ (any-yes _ _ c.before.before.find-watch.ensures c.before.if2.false)
+returns-3 c = go_on _ _ _ _ (sym c.before.before.before.before.before.obeys-rules.ensures ∙ not-false _ c.before.before.before.before.if1.false) (go_on _ _ _ _ (any_yes _ _ c.before.before.find-watch.ensures c.before.if2.false)
     ((ap (answered tt) (c.without.ensures ∙ ap (λ (w : ℕ). set_watch (dropped c.before.before.before.before.before.before.before.args.s w) w blank_watch) c.before.before.find-watch.ensures))))
 
 pub close_spec : {M : Type 1} → statement M

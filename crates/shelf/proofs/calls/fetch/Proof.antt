@@ -3,7 +3,7 @@ use Prim.Native.Nat.{ℕ}
 use mathlib.Core.Path.{◌∙◌, ap, refl, sym}
 use borrow.Author.Tests.{not-false, not-true}
 use borrow.Author.Rules.{rules}
-use Rattle.logic.proofs.LoopLaws.{any-no, any-yes}
+use Rattle.logic.proofs.LoopLaws.{any_no, any_yes}
 use Rattle.shelf_state.proofs.RuleLaws.{rules_of}
 use Rattle.shelf.proofs.CallLaws.{go_on, stop}
 use Rattle.shelf.specs.Calls.{fetched, fetched_from}
@@ -22,14 +22,14 @@ find-watch-requires c κs = (rules_of _ _ _ c.before.before.obeys-rules.ensures 
 
 returns-2 : tie.Need-returns-2
 unfolding fetched
-returns-2 c = go_on _ _ _ _ (sym c.before.before.before.before.obeys-rules.ensures ∙ not-false _ c.before.before.before.if1.false) (stop _ _ _ _ (any-no _ _ c.before.find-watch.ensures c.if2.true) refl)
+returns-2 c = go_on _ _ _ _ (sym c.before.before.before.before.obeys-rules.ensures ∙ not-false _ c.before.before.before.if1.false) (stop _ _ _ _ (any_no _ _ c.before.find-watch.ensures c.if2.true) refl)
 
 fetch-from-requires : tie.Need-fetch-from-requires
 fetch-from-requires c κs = (rules_of _ _ _ c.before.before.before.before.obeys-rules.ensures c.before.before.before.if1.false).size.count_64
 
 returns-3 : tie.Need-returns-3
 unfolding fetched
-returns-3 c = go_on _ _ _ _ (sym c.before.before.before.before.before.obeys-rules.ensures ∙ not-false _ c.before.before.before.before.if1.false) (go_on _ _ _ _ (any-yes _ _ c.before.before.find-watch.ensures c.before.if2.false)
+returns-3 c = go_on _ _ _ _ (sym c.before.before.before.before.before.obeys-rules.ensures ∙ not-false _ c.before.before.before.before.if1.false) (go_on _ _ _ _ (any_yes _ _ c.before.before.find-watch.ensures c.before.if2.false)
     (c.fetch-from.ensures ∙ ap (λ (w : ℕ). fetched_from c.before.before.before.before.before.before.before.args.s w c.before.before.before.before.before.before.before.args.number) c.before.before.find-watch.ensures))
 
 pub fetch_spec : {M : Type 1} → statement M

@@ -5,8 +5,8 @@ use native.Mathlib.Omega.{arith}
 use borrow.Author.Tests.{not-false, not-true}
 use borrow.Author.Rules.{rules}
 use Rattle.refusal.specs.Outcomes.{Outcome, resulted}
-use Rattle.logic.proofs.LoopLaws.{any-no, any-yes}
-use Rattle.shelf_state.proofs.RuleLaws.{held-numbers, rules_of}
+use Rattle.logic.proofs.LoopLaws.{any_no, any_yes}
+use Rattle.shelf_state.proofs.RuleLaws.{held_numbers_lem, rules_of}
 use Rattle.shelf_state.specs.Records.{watch_at}
 use Rattle.shelf.proofs.CallLaws.{go_on, stop}
 use Rattle.shelf.specs.Views.{Status, status_of}
@@ -26,15 +26,15 @@ find-watch-requires c κs = (rules_of _ _ _ c.before.before.obeys-rules.ensures 
 
 returns-2 : tie.Need-returns-2
 unfolding status_after
-returns-2 c = go_on _ _ _ _ (sym c.before.before.before.before.obeys-rules.ensures ∙ not-false _ c.before.before.before.if1.false) (stop _ _ _ _ (any-no _ _ c.before.find-watch.ensures c.if2.true) refl)
+returns-2 c = go_on _ _ _ _ (sym c.before.before.before.before.obeys-rules.ensures ∙ not-false _ c.before.before.before.if1.false) (stop _ _ _ _ (any_no _ _ c.before.find-watch.ensures c.if2.true) refl)
 
 progress-of-requires : tie.Need-progress-of-requires
 unfolding held_numbers
-progress-of-requires c κs = let h = rules_of _ _ _ c.before.before.before.before.obeys-rules.ensures c.before.before.before.if1.false in (omega (arith, h.size.records_16, c.if2.false), h.size.count_64, held-numbers _ _ h _)
+progress-of-requires c κs = let h = rules_of _ _ _ c.before.before.before.before.obeys-rules.ensures c.before.before.before.if1.false in (omega (arith, h.size.records_16, c.if2.false), h.size.count_64, held_numbers_lem _ _ h _)
 
 returns-3 : tie.Need-returns-3
 unfolding status_after
-returns-3 c = go_on _ _ _ _ (sym c.before.before.before.before.before.obeys-rules.ensures ∙ not-false _ c.before.before.before.before.if1.false) (go_on _ _ _ _ (any-yes _ _ c.before.before.find-watch.ensures c.before.if2.false)
+returns-3 c = go_on _ _ _ _ (sym c.before.before.before.before.before.obeys-rules.ensures ∙ not-false _ c.before.before.before.before.if1.false) (go_on _ _ _ _ (any_yes _ _ c.before.before.find-watch.ensures c.before.if2.false)
     (ap (λ (o : Outcome Status). record { outcome = o; shelf = c.before.before.before.before.before.before.before.args.s }) (c.progress-of.ensures ∙ ap (λ (w : ℕ). resulted (status_of (watch_at c.before.before.before.before.before.before.before.args.s w).edition (held_numbers c.before.before.before.before.before.before.before.args.s w))) c.before.before.find-watch.ensures)))
 
 pub status-spec : {M : Type 1} → statement M

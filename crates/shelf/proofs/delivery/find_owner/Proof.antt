@@ -5,7 +5,7 @@ use mathlib.Core.Bool.{false, true}
 use borrow.Author.Tests.{eq-eqb, le-leb, lt-leb, ne_eqb}
 use borrow.Author.Rules.{rules}
 use Rattle.refusal.specs.Outcomes.{or_refuse}
-use Rattle.logic.proofs.LoopLaws.{any-no}
+use Rattle.logic.proofs.LoopLaws.{any_no}
 use Rattle.shelf_state.specs.Searches.{watch_in}
 use Rattle.shelf.proofs.OwnerLaws.{owner_late}
 use Rattle.shelf.specs.Delivery.{owner_in}
@@ -21,7 +21,7 @@ find-watch-requires c κs = search rules
 
 returns-2 : tie.Need-returns-2
 unfolding owner_in or_refuse
-returns-2 c = rw (ne_eqb _ _ c.before.before.if1.false, any-no _ _ c.before.find-watch.ensures c.if2.true)
+returns-2 c = rw (ne_eqb _ _ c.before.before.if1.false, any_no _ _ c.before.find-watch.ensures c.if2.true)
 
 mul-x : tie.Need-overflow-mul-x
 mul-x c = search rules

@@ -3,7 +3,7 @@ use Prim.Native.Nat.{◌*◌, ℕ}
 use mathlib.Core.Path.{◌∙◌, ap, ap₂}
 use lib.ListN.{drop, take}
 use borrow.Author.Rules.{rules}
-use Rattle.logic.proofs.LoopLaws.{any-no, any-yes}
+use Rattle.logic.proofs.LoopLaws.{any_no, any_yes}
 use Rattle.shelf_state.specs.Records.{place_at}
 use Rattle.shelf.specs.Inner.{kept_bytes}
 use Rattle.shelf.proofs.inner.kept.Statement.{statement}
@@ -17,7 +17,7 @@ part-of-requires c κs = search rules
 
 returns : tie.Need-returns
 unfolding kept_bytes
-returns c = rw (any-no _ _ c.before.before.find-place.ensures c.before.if1.true) c.part_of.ensures
+returns c = rw (any_no _ _ c.before.before.find-place.ensures c.before.if1.true) c.part_of.ensures
 
 mul-p : tie.Need-overflow-mul-p
 mul-p c = search rules
@@ -37,7 +37,7 @@ part-of-requires-2 c κs = search rules
 returns-2 : tie.Need-returns-2
 unfolding kept_bytes
 returns-2 c = let g = c.before.before.before.before.before.before.before.args in
-    rw (any-yes _ _ c.before.before.before.before.find-place.ensures c.before.before.before.if1.false)
+    rw (any_yes _ _ c.before.before.before.before.find-place.ensures c.before.before.before.if1.false)
     (c.part-of2.ensures ∙ ap₂ (λ (i l : ℕ). take l (drop (i * 4096) g.area.now)) c.before.before.before.before.find-place.ensures
     (c.before.wide_word.ensures.0 ∙ ap (λ (i : ℕ). (place_at g.t1 i).length) c.before.before.before.before.find-place.ensures))
 

@@ -3,7 +3,7 @@ use mathlib.Core.Path.{◌∙◌, ap}
 use native.Mathlib.Omega.{arith}
 use borrow.Author.Rules.{rules}
 use Rattle.refusal.specs.Outcomes.{resulted}
-use Rattle.shelf.proofs.CallLaws.{status-complete, status-part, status-unheard}
+use Rattle.shelf.proofs.CallLaws.{status_complete, status_part, status_unheard}
 use Rattle.shelf.proofs.inner.progress_of.Statement.{statement}
 use Rattle.shelf.proofs.inner.progress_of.Tie as tie
 
@@ -23,13 +23,13 @@ held-in-requires : tie.Need-held-in-requires
 held-in-requires c κs = search rules
 
 returns : tie.Need-returns
-returns c = ap resulted (status-complete _ _ _ _ c.before.before.before.before.if1.true (c.before.held_in.ensures ∙ c.before.before.before.before.before.before.before.requires.2) (omega (arith, c.before.before.before.wide.ensures.0)) c.if2.true)
+returns c = ap resulted (status_complete _ _ _ _ c.before.before.before.before.if1.true (c.before.held_in.ensures ∙ c.before.before.before.before.before.before.before.requires.2) (omega (arith, c.before.before.before.wide.ensures.0)) c.if2.true)
 
 returns-2 : tie.Need-returns-2
-returns-2 c = ap resulted (status-part _ _ _ _ c.before.before.before.before.if1.true (c.before.held_in.ensures ∙ c.before.before.before.before.before.before.before.requires.2) (omega (arith, c.before.before.before.wide.ensures.0)) c.if2.false)
+returns-2 c = ap resulted (status_part _ _ _ _ c.before.before.before.before.if1.true (c.before.held_in.ensures ∙ c.before.before.before.before.before.before.before.requires.2) (omega (arith, c.before.before.before.wide.ensures.0)) c.if2.false)
 
 returns-3 : tie.Need-returns-3
-returns-3 c = ap resulted (status-unheard _ _ c.if1.false)
+returns-3 c = ap resulted (status_unheard _ _ c.if1.false)
 
 pub progress-of-spec : {M : Type 1} → statement M
 progress-of-spec =

@@ -5,7 +5,7 @@ use mathlib.Core.Bool.{false}
 use native.Mathlib.Omega.{arith}
 use borrow.Author.Count.{below_more, below_none}
 use borrow.Author.Rules.{rules}
-use Rattle.logic.proofs.LoopLaws.{first-at, first_none}
+use Rattle.logic.proofs.LoopLaws.{first_at, first_none}
 use Rattle.shelf_state.specs.Records.{holds}
 use Rattle.shelf_state.specs.Searches.{place_in}
 use Rattle.shelf_state.proofs.inner.find_place.Statement.{statement}
@@ -30,7 +30,7 @@ holds-section-requires : tie.Need-holds-section-requires invariant-loop decrease
 holds-section-requires c κs = search rules
 
 returns : tie.Need-returns invariant-loop decreases-loop
-returns c = sym (first-at _ _ _ c.before.before.before.loop-test.true c.before.before.before.before.loop.invariant.1 (sym c.before.holds-section.ensures ∙ c.if1.true))
+returns c = sym (first_at _ _ _ c.before.before.before.loop-test.true c.before.before.before.before.loop.invariant.1 (sym c.before.holds-section.ensures ∙ c.if1.true))
 
 add-i : tie.Need-overflow-add-i invariant-loop decreases-loop
 add-i c = search rules

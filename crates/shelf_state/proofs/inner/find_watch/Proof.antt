@@ -5,7 +5,7 @@ use mathlib.Core.Bool.{false}
 use native.Mathlib.Omega.{arith}
 use borrow.Author.Count.{below_more, below_none}
 use borrow.Author.Rules.{rules}
-use Rattle.logic.proofs.LoopLaws.{first-at, first_none}
+use Rattle.logic.proofs.LoopLaws.{first_at, first_none}
 use Rattle.shelf_state.specs.Records.{is_of}
 use Rattle.shelf_state.specs.Searches.{watch_in}
 use Rattle.shelf_state.proofs.inner.find_watch.Statement.{statement}
@@ -30,7 +30,7 @@ is-of-requires : tie.Need-is-of-requires invariant-loop decreases-loop
 is-of-requires c κs = search rules
 
 returns : tie.Need-returns invariant-loop decreases-loop
-returns c = sym (first-at _ _ _ c.before.before.before.loop-test.true c.before.before.before.before.loop.invariant.1 (sym c.before.is-of.ensures ∙ c.if1.true))
+returns c = sym (first_at _ _ _ c.before.before.before.loop-test.true c.before.before.before.before.loop.invariant.1 (sym c.before.is-of.ensures ∙ c.if1.true))
 
 add-i : tie.Need-overflow-add-i invariant-loop decreases-loop
 add-i c = search rules

@@ -5,7 +5,7 @@ use mathlib.Core.Bool.{false, not}
 use native.Mathlib.Omega.{arith}
 use borrow.Author.Count.{below_more, below_none}
 use borrow.Author.Rules.{rules}
-use Rattle.logic.proofs.LoopLaws.{first-at, first_none}
+use Rattle.logic.proofs.LoopLaws.{first_at, first_none}
 use Rattle.shelf_state.specs.Searches.{watch_in}
 use Rattle.shelf_state.proofs.inner.free_record.Statement.{statement}
 use Rattle.shelf_state.proofs.inner.free_record.Tie as tie
@@ -35,7 +35,7 @@ loop-again : tie.Need-loop-preserved invariant-loop decreases-loop
 loop-again c = (search rules, below_more _ _ c.before.before.before.loop.invariant.1 (ap not c.if1.true))
 
 returns : tie.Need-returns invariant-loop decreases-loop
-returns c = sym (first-at _ _ _ c.before.before.loop-test.true c.before.before.before.loop.invariant.1 (ap not c.if1.false))
+returns c = sym (first_at _ _ _ c.before.before.loop-test.true c.before.before.before.loop.invariant.1 (ap not c.if1.false))
 
 returns-2 : tie.Need-returns-2 invariant-loop decreases-loop
 returns-2 c = sym (first_none _ _ (λ k h. c.before.loop.invariant.1 k (omega arith)))

@@ -4,7 +4,7 @@ use mathlib.Core.Path.{◌∙◌, ◌≡◌, ap, sym}
 use mathlib.Core.Logic.{⊎_elim}
 use native.Mathlib.Omega.{arith}
 use borrow.Author.Rules.{rules}
-use Rattle.logic.proofs.LoopLaws.{at_end, sum_more, sum-none}
+use Rattle.logic.proofs.LoopLaws.{at_end, sum_more, sum_none}
 use Rattle.logic.specs.Loops.{count, one}
 use Rattle.shelf_state.specs.Records.{holds_for}
 use Rattle.shelf_state.specs.Searches.{place_in}
@@ -18,7 +18,7 @@ abbrev decreases-loop : tie.decreases-loop
 decreases-loop n w ps held₀ i₀ held i = n - i
 
 loop-holds : tie.Need-loop-init invariant-loop decreases-loop
-loop-holds c = (search rules, search rules, sym (sum-none (λ j. one (holds_for (place_in c.args.t1 j) c.args.w))))
+loop-holds c = (search rules, search rules, sym (sum_none (λ j. one (holds_for (place_in c.args.t1 j) c.args.w))))
 
 mul-p : tie.Need-overflow-mul-p invariant-loop decreases-loop
 mul-p c = search rules

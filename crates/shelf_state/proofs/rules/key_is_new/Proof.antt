@@ -1,6 +1,6 @@
 -- `key_is_new` meets its contract: the first watch with the key is not below i.
 use borrow.Author.Rules.{rules}
-use Rattle.logic.proofs.LoopLaws.{not-any-first}
+use Rattle.logic.proofs.LoopLaws.{not_any_first}
 use Rattle.logic.specs.Loops.{◌⇒◌}
 use Rattle.shelf_state.specs.Tests.{key_is_new}
 use Rattle.shelf_state.proofs.rules.key_is_new.Statement.{statement}
@@ -20,7 +20,7 @@ find-watch-requires c κs = search rules
 
 returns : tie.Need-returns
 unfolding ◌⇒◌ key_is_new
-returns c = rw (← c.before.asked_of.ensures, c.before.before.if1.true, c.find-watch.ensures) (not-any-first _ _)
+returns c = rw (← c.before.asked_of.ensures, c.before.before.if1.true, c.find-watch.ensures) (not_any_first _ _)
 
 returns-2 : tie.Need-returns-2
 unfolding ◌⇒◌ key_is_new

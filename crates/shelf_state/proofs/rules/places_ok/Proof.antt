@@ -7,8 +7,8 @@ use native.Mathlib.Omega.{arith}
 use borrow.Author.Tests.{not-false, not-true}
 use borrow.Author.Count.{below_more, below_none}
 use borrow.Author.Rules.{rules}
-use Rattle.shelf_state.proofs.FlagLaws.{Seen, flag_is, flag_small, owner-no, owner-past, owner-yes, place-free, place-owner, place-sound, place_twice, seen_free, seen_more, seen_none}
-use Rattle.logic.proofs.LoopLaws.{all-fails, all_met}
+use Rattle.shelf_state.proofs.FlagLaws.{Seen, flag_is, flag_small, owner_no, owner_past, owner_yes, place_free, place_owner, place_sound, place_twice, seen_free, seen_more, seen_none}
+use Rattle.logic.proofs.LoopLaws.{all_fails, all_met}
 use Rattle.shelf_state.specs.Tests.{place_ok}
 use Rattle.shelf_state.proofs.rules.places_ok.Statement.{statement}
 use Rattle.shelf_state.proofs.rules.places_ok.Tie as tie
@@ -35,7 +35,7 @@ wide-requires : tie.Need-wide-requires invariant-loop decreases-loop
 wide-requires c κs = search rules
 
 returns : tie.Need-returns invariant-loop decreases-loop
-returns c = sym (all-fails _ _ _ c.before.before.before.before.loop-test.true (place-owner _ _ c.before.before.if1.true (owner-past _ _ c.before.wide.ensures.0 c.if2.true)))
+returns c = sym (all_fails _ _ _ c.before.before.before.before.loop-test.true (place_owner _ _ c.before.before.if1.true (owner_past _ _ c.before.wide.ensures.0 c.if2.true)))
 
 mul-w : tie.Need-overflow-mul-w invariant-loop decreases-loop
 mul-w c = search rules
@@ -47,20 +47,20 @@ sound-under-requires : tie.Need-sound-under-requires invariant-loop decreases-lo
 sound-under-requires c κs = search rules
 
 returns-2 : tie.Need-returns-2 invariant-loop decreases-loop
-returns-2 c = sym (all-fails _ _ _ c.before.before.before.before.before.before.before.loop-test.true (place-owner _ _ c.before.before.before.before.before.if1.true (owner-no _ _ c.before.before.before.before.wide.ensures.0 (sym c.before.sound-under.ensures ∙ not-true _ c.if3.true))))
+returns-2 c = sym (all_fails _ _ _ c.before.before.before.before.before.before.before.loop-test.true (place_owner _ _ c.before.before.before.before.before.if1.true (owner_no _ _ c.before.before.before.before.wide.ensures.0 (sym c.before.sound-under.ensures ∙ not-true _ c.if3.true))))
 
 flag-of-requires : tie.Need-flag-of-requires invariant-loop decreases-loop
 flag-of-requires c κs = search rules
 
 array-read-if4 : tie.Need-array-read-if4 invariant-loop decreases-loop
-array-read-if4 c = let f = flag_small c.before.before.before.before.before.before.before.before.before.before.before.args.t1 _ c.before.before.before.before.before.before.before.before.before.before.before.requires.1 c.before.before.before.before.before.before.before.before.before.before.before.requires.2 (owner-yes _ _ c.before.before.before.before.before.wide.ensures.0 c.before.before.before.before.if2.false (sym c.before.before.sound-under.ensures ∙ not-false _ c.before.if3.false)) in omega (arith, f.0, f.1, c.flag-of.ensures)
+array-read-if4 c = let f = flag_small c.before.before.before.before.before.before.before.before.before.before.before.args.t1 _ c.before.before.before.before.before.before.before.before.before.before.before.requires.1 c.before.before.before.before.before.before.before.before.before.before.before.requires.2 (owner_yes _ _ c.before.before.before.before.before.wide.ensures.0 c.before.before.before.before.if2.false (sym c.before.before.sound-under.ensures ∙ not-false _ c.before.if3.false)) in omega (arith, f.0, f.1, c.flag-of.ensures)
 
 returns-3 : tie.Need-returns-3 invariant-loop decreases-loop
-returns-3 c = let f = flag_small c.before.before.before.before.before.before.before.before.before.before.before.before.args.t1 _ c.before.before.before.before.before.before.before.before.before.before.before.before.requires.1 c.before.before.before.before.before.before.before.before.before.before.before.before.requires.2 (owner-yes _ _ c.before.before.before.before.before.before.wide.ensures.0 c.before.before.before.before.before.if2.false (sym c.before.before.before.sound-under.ensures ∙ not-false _ c.before.before.if3.false)) in
-    sym (all-fails _ _ _ c.before.before.before.before.before.before.before.before.before.loop-test.true (place_twice _ _ c.before.before.before.before.before.before.before.if1.true (flag_is _ _ _ _ true c.before.before.before.before.before.before.before.before.before.before.loop.invariant.1 f c.before.flag-of.ensures c.if4.true)))
+returns-3 c = let f = flag_small c.before.before.before.before.before.before.before.before.before.before.before.before.args.t1 _ c.before.before.before.before.before.before.before.before.before.before.before.before.requires.1 c.before.before.before.before.before.before.before.before.before.before.before.before.requires.2 (owner_yes _ _ c.before.before.before.before.before.before.wide.ensures.0 c.before.before.before.before.before.if2.false (sym c.before.before.before.sound-under.ensures ∙ not-false _ c.before.before.if3.false)) in
+    sym (all_fails _ _ _ c.before.before.before.before.before.before.before.before.before.loop-test.true (place_twice _ _ c.before.before.before.before.before.before.before.if1.true (flag_is _ _ _ _ true c.before.before.before.before.before.before.before.before.before.before.loop.invariant.1 f c.before.flag-of.ensures c.if4.true)))
 
 array-write-seen : tie.Need-array-write-seen invariant-loop decreases-loop
-array-write-seen c = let f = flag_small c.before.before.before.before.before.before.before.before.before.before.before.before.args.t1 _ c.before.before.before.before.before.before.before.before.before.before.before.before.requires.1 c.before.before.before.before.before.before.before.before.before.before.before.before.requires.2 (owner-yes _ _ c.before.before.before.before.before.before.wide.ensures.0 c.before.before.before.before.before.if2.false (sym c.before.before.before.sound-under.ensures ∙ not-false _ c.before.before.if3.false)) in omega (arith, f.0, f.1, c.before.flag-of.ensures)
+array-write-seen c = let f = flag_small c.before.before.before.before.before.before.before.before.before.before.before.before.args.t1 _ c.before.before.before.before.before.before.before.before.before.before.before.before.requires.1 c.before.before.before.before.before.before.before.before.before.before.before.before.requires.2 (owner_yes _ _ c.before.before.before.before.before.before.wide.ensures.0 c.before.before.before.before.before.if2.false (sym c.before.before.before.sound-under.ensures ∙ not-false _ c.before.before.if3.false)) in omega (arith, f.0, f.1, c.before.flag-of.ensures)
 
 add-i : tie.Need-overflow-add-i invariant-loop decreases-loop
 add-i c = search rules
@@ -71,16 +71,16 @@ loop-less c = search rules
 loop-again : tie.Need-loop-preserved invariant-loop decreases-loop
 loop-again c = ⊎_elim
     (λ u.
-    let e = owner-yes _ _ u.1.ensures.0 u.2.left (sym u.4.ensures ∙ not-false _ u.5.left) in
+    let e = owner_yes _ _ u.1.ensures.0 u.2.left (sym u.4.ensures ∙ not-false _ u.5.left) in
     let f = flag_small c.before.before.before.before.before.args.t1 _ c.before.before.before.before.before.requires.1 c.before.before.before.before.before.requires.2 e in (
       search rules,
       subst (Seen _ _) (sym u.8) (seen_more _ _ _ _ c.before.before.before.loop.invariant.1 u.0.taken f u.6.ensures),
-      below_more _ _ c.before.before.before.loop.invariant.2 (place-sound _ _ e (flag_is _ _ _ _ false c.before.before.before.loop.invariant.1 f u.6.ensures u.7.left)),
+      below_more _ _ c.before.before.before.loop.invariant.2 (place_sound _ _ e (flag_is _ _ _ _ false c.before.before.before.loop.invariant.1 f u.6.ensures u.7.left)),
     ))
     (λ u. (
       search rules,
       subst (Seen _ _) (sym u.1) (seen_free _ _ _ c.before.before.before.loop.invariant.1 u.0.left),
-      below_more _ _ c.before.before.before.loop.invariant.2 (place-free _ _ u.0.left),
+      below_more _ _ c.before.before.before.loop.invariant.2 (place_free _ _ u.0.left),
     ))
     c.if1.branch
 

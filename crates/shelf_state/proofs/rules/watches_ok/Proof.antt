@@ -5,7 +5,7 @@ use mathlib.Core.Bool.{true}
 use borrow.Author.Tests.{not-false, not-true}
 use borrow.Author.Count.{below_more, below_none}
 use borrow.Author.Rules.{rules}
-use Rattle.logic.proofs.LoopLaws.{all-fails, all_met, and_i, and_no_left, and_no_right}
+use Rattle.logic.proofs.LoopLaws.{all_fails, all_met, and_i, and_no_left, and_no_right}
 use Rattle.shelf_state.specs.Tests.{watch_ok}
 use Rattle.shelf_state.proofs.rules.watches_ok.Statement.{statement}
 use Rattle.shelf_state.proofs.rules.watches_ok.Tie as tie
@@ -30,14 +30,14 @@ watch-sound-requires c κs = search rules
 
 returns : tie.Need-returns invariant-loop decreases-loop
 unfolding watch_ok
-returns c = sym (all-fails _ _ _ c.before.before.before.loop-test.true (and_no_left _ _ (sym c.before.watch-sound.ensures ∙ not-true _ c.if1.true)))
+returns c = sym (all_fails _ _ _ c.before.before.before.loop-test.true (and_no_left _ _ (sym c.before.watch-sound.ensures ∙ not-true _ c.if1.true)))
 
 key-is-new-requires : tie.Need-key-is-new-requires invariant-loop decreases-loop
 key-is-new-requires c κs = search rules
 
 returns-2 : tie.Need-returns-2 invariant-loop decreases-loop
 unfolding watch_ok
-returns-2 c = sym (all-fails _ _ _ c.before.before.before.before.before.loop-test.true (and_no_right _ _ (sym c.before.key-is-new.ensures ∙ not-true _ c.if2.true)))
+returns-2 c = sym (all_fails _ _ _ c.before.before.before.before.before.loop-test.true (and_no_right _ _ (sym c.before.key-is-new.ensures ∙ not-true _ c.if2.true)))
 
 add-i : tie.Need-overflow-add-i invariant-loop decreases-loop
 add-i c = search rules

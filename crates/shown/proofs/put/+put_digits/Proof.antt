@@ -1,7 +1,7 @@
 -- `put_digits` meets its contract: the digits before the last two are those of a hundredth.
 use native.Mathlib.Omega.{arith}
 use borrow.Author.Rules.{rules}
-use Rattle.shown.proofs.PutLaws.{number_small, number-pair, number_more}
+use Rattle.shown.proofs.PutLaws.{number_small, number_pair, number_more}
 use Prim.Native.Nat.{ℕ, ◌<◌}
 use borrow.Fn.Kinds.{In}
 use borrow.Fn.PlainCycle.{Measures, is, falls, and}
@@ -52,7 +52,7 @@ put-digits-same-length-2 t c = search rules
 put-digits-returns-2 : (t : ℕ) → put-digits-lts.Need-returns-2 (calls t) (put-digits-at t) put-digits.Post
 put-digits-returns-2 t c most h =
     let d = c.before.before.before.before in
-    number-pair _ most h d.before.if1.false d.if2.true c.before.before.put-pair.ensures
+    number_pair _ most h d.before.if1.false d.if2.true c.before.before.put-pair.ensures
 
 put-digits-put-digits-requires : (t : ℕ) → put-digits-lts.Need-put-digits-requires (calls t) (put-digits-at t) put-digits.Post
 put-digits-put-digits-requires t c κs = (omega (arith, c.before.before.before.before.requires.0, c.before.if2.false), tt)

@@ -1,7 +1,7 @@
 -- `tell_count` meets its contract.
 use borrow.Author.Rules.{rules}
 use mathlib.Core.Path.{refl}
-use Rattle.telling.proofs.ToldLaws.{told-refused, told_result}
+use Rattle.telling.proofs.ToldLaws.{told_refused, told_result}
 use Rattle.telling.proofs.all.tell_count.Statement.{statement}
 use Rattle.telling.proofs.all.tell_count.Tie as tie
 
@@ -18,7 +18,7 @@ one-requires : tie.Need-one-requires
 one-requires c κs = search rules
 
 returns : tie.Need-returns
-returns c = told-refused _ _ _ _ _ (rw c.before.before.answer.given.1) c.number_of_lem.ensures
+returns c = told_refused _ _ _ _ _ (rw c.before.before.answer.given.1) c.number_of_lem.ensures
 
 returns-2 : tie.Need-returns-2
 returns-2 c = let k = c.before.before in

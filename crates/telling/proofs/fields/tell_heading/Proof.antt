@@ -1,7 +1,7 @@
 -- `tell_heading` meets its contract.
 use mathlib.Core.Path.{refl, ap}
 use Rattle.text.specs.Answers.{heading_outcome}
-use Rattle.telling.proofs.ToldLaws.{told-refused, told_result}
+use Rattle.telling.proofs.ToldLaws.{told_refused, told_result}
 use borrow.Author.Rules.{rules}
 use Rattle.telling.proofs.fields.tell_heading.Statement.{statement}
 use Rattle.telling.proofs.fields.tell_heading.Tie as tie
@@ -19,7 +19,7 @@ two-requires : tie.Need-two-requires
 two-requires c κs = search rules
 
 returns : tie.Need-returns
-returns c = told-refused _ _ _ _ _ (ap heading_outcome c.before.before.answer.given.1) c.number_of_lem.ensures
+returns c = told_refused _ _ _ _ _ (ap heading_outcome c.before.before.answer.given.1) c.number_of_lem.ensures
 
 returns-2 : tie.Need-returns-2
 returns-2 c = told_result _ _ _ _ c.before.before.answer2.given.0.0 _ (ap heading_outcome c.before.before.answer2.given.1) refl c.two.ensures

@@ -1,7 +1,7 @@
 -- `tell_descriptor` meets its contract.
 use borrow.Author.Rules.{rules}
 use mathlib.Core.Path.{refl}
-use Rattle.telling.proofs.ToldLaws.{told-refused, told_result}
+use Rattle.telling.proofs.ToldLaws.{told_refused, told_result}
 use Rattle.telling.proofs.ratings.tell_descriptor.Statement.{statement}
 use Rattle.telling.proofs.ratings.tell_descriptor.Tie as tie
 
@@ -18,7 +18,7 @@ three-requires : tie.Need-three-requires
 three-requires c κs = search rules
 
 returns : tie.Need-returns
-returns c = told-refused _ _ _ _ _ (rw c.before.before.answer.given.1) c.number_of_lem.ensures
+returns c = told_refused _ _ _ _ _ (rw c.before.before.answer.given.1) c.number_of_lem.ensures
 
 returns-2 : tie.Need-returns-2
 returns-2 c = let k = c.before.before in

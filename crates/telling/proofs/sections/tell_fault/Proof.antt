@@ -2,7 +2,7 @@
 use borrow.Author.Rules.{rules}
 use mathlib.Core.Path.{refl}
 use Rattle.refusal.specs.Outputs.{no_value}
-use Rattle.telling.proofs.ToldLaws.{told-refused, told_result}
+use Rattle.telling.proofs.ToldLaws.{told_refused, told_result}
 use Rattle.telling.proofs.sections.tell_fault.Statement.{statement}
 use Rattle.telling.proofs.sections.tell_fault.Tie as tie
 
@@ -25,7 +25,7 @@ one-requires-2 : tie.Need-one-requires-2
 one-requires-2 c κs = search rules
 
 returns : tie.Need-returns
-returns c = told-refused _ _ _ _ _ (rw c.before.before.answer.given.1) c.number_of_lem.ensures
+returns c = told_refused _ _ _ _ _ (rw c.before.before.answer.given.1) c.number_of_lem.ensures
 
 returns-2 : tie.Need-returns-2
 returns-2 c = let k = c.before.before in

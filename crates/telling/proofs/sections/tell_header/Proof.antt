@@ -2,7 +2,7 @@
 use borrow.Author.Rules.{rules}
 use mathlib.Core.Path.{refl, ap}
 use Rattle.section.specs.Answers.{head_outcome}
-use Rattle.telling.proofs.ToldLaws.{told-refused, told_result}
+use Rattle.telling.proofs.ToldLaws.{told_refused, told_result}
 use Rattle.telling.proofs.sections.tell_header.Statement.{statement}
 use Rattle.telling.proofs.sections.tell_header.Tie as tie
 
@@ -19,7 +19,7 @@ header-numbers-requires : tie.Need-header-numbers-requires
 header-numbers-requires c κs = search rules
 
 returns : tie.Need-returns
-returns c = told-refused _ _ _ _ _ (ap head_outcome c.before.before.answer.given.1) c.number_of_lem.ensures
+returns c = told_refused _ _ _ _ _ (ap head_outcome c.before.before.answer.given.1) c.number_of_lem.ensures
 
 returns-2 : tie.Need-returns-2
 returns-2 c = let k = c.before.before in

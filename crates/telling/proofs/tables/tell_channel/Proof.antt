@@ -2,7 +2,7 @@
 use borrow.Author.Rules.{rules}
 use mathlib.Core.Path.{refl, ap}
 use Rattle.reading.specs.Tvcts.{entry_outcome}
-use Rattle.telling.proofs.ToldLaws.{told-refused, told_result}
+use Rattle.telling.proofs.ToldLaws.{told_refused, told_result}
 use Rattle.telling.proofs.tables.tell_channel.Statement.{statement}
 use Rattle.telling.proofs.tables.tell_channel.Tie as tie
 
@@ -19,7 +19,7 @@ channel-numbers-requires : tie.Need-channel-numbers-requires
 channel-numbers-requires c κs = search rules
 
 returns : tie.Need-returns
-returns c = told-refused _ _ _ _ _ (ap entry_outcome c.before.before.answer.given.1) c.number_of_lem.ensures
+returns c = told_refused _ _ _ _ _ (ap entry_outcome c.before.before.answer.given.1) c.number_of_lem.ensures
 
 returns-2 : tie.Need-returns-2
 returns-2 c = let k = c.before.before in

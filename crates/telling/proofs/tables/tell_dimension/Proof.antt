@@ -4,7 +4,7 @@ use mathlib.Core.Path.{refl, ap}
 use Rattle.reading.specs.Rrts.{entry_outcome}
 use Rattle.row.specs.Rows.{part_row}
 use Rattle.telling.specs.Tables.{dimension_numbers}
-use Rattle.telling.proofs.ToldLaws.{told-refused, told_result}
+use Rattle.telling.proofs.ToldLaws.{told_refused, told_result}
 use Rattle.telling.proofs.tables.tell_dimension.Statement.{statement}
 use Rattle.telling.proofs.tables.tell_dimension.Tie as tie
 
@@ -21,7 +21,7 @@ four-requires : tie.Need-four-requires
 four-requires c κs = search rules
 
 returns : tie.Need-returns
-returns c = told-refused _ _ _ _ _ (ap entry_outcome c.before.before.answer.given.1) c.number_of_lem.ensures
+returns c = told_refused _ _ _ _ _ (ap entry_outcome c.before.before.answer.given.1) c.number_of_lem.ensures
 
 returns-2 : tie.Need-returns-2
 unfolding dimension_numbers part_row

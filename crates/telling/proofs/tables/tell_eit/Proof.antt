@@ -3,7 +3,7 @@ use borrow.Author.Rules.{rules}
 use mathlib.Core.Path.{refl, ap}
 use Rattle.reading.specs.Eits.{fields_outcome}
 use Rattle.telling.specs.Tables.{eit_numbers}
-use Rattle.telling.proofs.ToldLaws.{told-refused, told_result}
+use Rattle.telling.proofs.ToldLaws.{told_refused, told_result}
 use Rattle.telling.proofs.tables.tell_eit.Statement.{statement}
 use Rattle.telling.proofs.tables.tell_eit.Tie as tie
 
@@ -20,7 +20,7 @@ two-requires : tie.Need-two-requires
 two-requires c κs = search rules
 
 returns : tie.Need-returns
-returns c = told-refused _ _ _ _ _ (ap fields_outcome c.before.before.answer.given.1) c.number_of_lem.ensures
+returns c = told_refused _ _ _ _ _ (ap fields_outcome c.before.before.answer.given.1) c.number_of_lem.ensures
 
 returns-2 : tie.Need-returns-2
 unfolding eit_numbers

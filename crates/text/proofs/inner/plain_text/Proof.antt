@@ -1,6 +1,6 @@
 -- `plain_text` meets its contract.
 use Rattle.text.specs.Strings.{joined_units, joined_replaced}
-use Rattle.text.proofs.TextLaws.{text-stop, text-short, text-fits}
+use Rattle.text.proofs.TextLaws.{text_stop, text_short, text_fits}
 use Rattle.text.proofs.JoinLaws.{plain_wrote}
 use borrow.Author.Rules.{rules}
 use Rattle.text.proofs.inner.plain_text.Statement.{statement}
@@ -22,13 +22,13 @@ returns : tie.Need-returns
 returns c =
     let a = c.before.before.before.before.before.before.before.args in
     let y = plain_wrote c.before.before.before.before.before.before.before.requires.1 c.before.before.before.plain-segments.ensures in
-    text-stop (joined_replaced a.s.now a.end a.m a.from) a.out.now (joined_units a.s.now a.end a.m a.from) _ _ y.answers c.enum_told.given.1
+    text_stop (joined_replaced a.s.now a.end a.m a.from) a.out.now (joined_units a.s.now a.end a.m a.from) _ _ y.answers c.enum_told.given.1
 
 returns-2 : tie.Need-returns-2
 returns-2 c =
     let a = c.before.before.before.before.before.before.before.before.before.before.args in
     let y = plain_wrote c.before.before.before.before.before.before.before.before.before.before.requires.1 c.before.before.before.before.before.before.plain-segments.ensures in
-    text-short (joined_replaced a.s.now a.end a.m a.from) a.out.now (joined_units a.s.now a.end a.m a.from) _ _ y.answers c.before.before.before.first.given.1 c.if1.true
+    text_short (joined_replaced a.s.now a.end a.m a.from) a.out.now (joined_units a.s.now a.end a.m a.from) _ _ y.answers c.before.before.before.first.given.1 c.if1.true
 
 plain-segments-requires-2 : tie.Need-plain-segments-requires-2
 plain-segments-requires-2 c κs = search rules
@@ -41,7 +41,7 @@ returns-3 c =
     let a = c.before.before.before.before.before.before.before.before.before.before.before.before.before.before.args in
     let y = plain_wrote c.before.before.before.before.before.before.before.before.before.before.before.before.before.before.requires.1 c.before.before.before.before.before.before.before.before.before.before.plain-segments.ensures in
     let z = plain_wrote c.before.before.before.before.before.before.before.before.before.before.before.before.before.before.requires.1 c.before.before.plain-segments2.ensures in
-    text-fits (joined_replaced a.s.now a.end a.m a.from) a.out.now (joined_units a.s.now a.end a.m a.from) _ _ _ _ y.answers c.before.before.before.before.before.before.before.first.given.1 c.before.before.before.before.if1.false z
+    text_fits (joined_replaced a.s.now a.end a.m a.from) a.out.now (joined_units a.s.now a.end a.m a.from) _ _ _ _ y.answers c.before.before.before.before.before.before.before.first.given.1 c.before.before.before.before.if1.false z
 
 pub plain-text-spec : {M : Type 1} → statement M
 plain-text-spec =

@@ -1,6 +1,6 @@
 -- `string_read` meets its contract.
-use Rattle.text.proofs.TextLaws.{units-found, replaced-found, units-missing}
-use Rattle.text.proofs.FewLaws.{string-after}
+use Rattle.text.proofs.TextLaws.{units_found, replaced_found, units_missing}
+use Rattle.text.proofs.FewLaws.{string_after}
 use Rattle.text.proofs.PassLaws.{onced_missing}
 use Rattle.text.specs.Answers.{number_outcome}
 use native.Mathlib.Omega.{arith}
@@ -26,20 +26,20 @@ segments-once-requires c κs =
     let d = c.before.before.before in
     let a = d.before.before.before.before.args in
     let e = sym (ap number_outcome d.b.given.1) ∙ d.before.before.find-string.ensures in
-    (c.before.back.ensures.1, omega (arith, d.before.before.before.before.requires, string-after a.s.now a.end a.at a.k _ (sym e)))
+    (c.before.back.ensures.1, omega (arith, d.before.before.before.before.requires, string_after a.s.now a.end a.at a.k _ (sym e)))
 
 returns : tie.Need-returns
 returns c =
     let a = c.before.before.before.before.before.args in
     let e = sym (ap number_outcome c.before.r.given.1) ∙ c.before.before.before.find-string.ensures in
-    onced_missing _ _ a.o.now _ (units-missing a.s.now a.end a.at a.k _ e)
+    onced_missing _ _ a.o.now _ (units_missing a.s.now a.end a.at a.k _ e)
 
 returns-2 : tie.Need-returns-2
 returns-2 c =
     let d = c.before.before.before.before in
     let a = d.before.before.before.before.args in
     let e = sym (ap number_outcome d.b.given.1) ∙ d.before.before.find-string.ensures in
-    rw (units-found a.s.now a.end a.at a.k _ e, replaced-found a.s.now a.end a.at a.k _ e) (rw c.before.before.back.ensures.0 at c.segments-once.ensures)
+    rw (units_found a.s.now a.end a.at a.k _ e, replaced_found a.s.now a.end a.at a.k _ e) (rw c.before.before.back.ensures.0 at c.segments-once.ensures)
 
 pub string-read-spec : {M : Type 1} → statement M
 string-read-spec =

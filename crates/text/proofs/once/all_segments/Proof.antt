@@ -1,5 +1,5 @@
 -- `all_segments` meets its contract: what is left of the units leads to the answer.
-use Rattle.text.proofs.JoinLaws.{many_once, segment_ends, units-none, units-bad, units-on, Going, going_first, wrote_few, going-refused, going_done, going-stop, going_on}
+use Rattle.text.proofs.JoinLaws.{many_once, segment_ends, units_none, units_bad, units_on, Going, going_first, wrote_few, going_refused, going_done, going_stop, going_on}
 use Rattle.text.proofs.AmountLaws.{none_joined}
 use Rattle.text.specs.Strings.{joined_units}
 use Rattle.refusal.specs.declared.Refusal.TheVariants.{Body}
@@ -38,7 +38,7 @@ returns c = let d = c.before.before.before.before in
     let q = d.loop in
     let a = d.before.before.before.args in
     let w = goes (c.before.before.segments.ensures ∙ many_once _ _) c.enum_told.given.1 in
-    (going-refused q.invariant.0 _ Body _ (units-bad a.s.now a.end q.left q.at _ (omega arith) w), q.invariant.1)
+    (going_refused q.invariant.0 _ Body _ (units_bad a.s.now a.end q.left q.at _ (omega arith) w), q.invariant.1)
 
 segment-through-requires : tie.Need-segment-through-requires invariant-loop decreases-loop
 segment-through-requires c κs = let d = c.before.before.before.before.before in
@@ -59,9 +59,9 @@ returns-2 c = let v = c.before.before.before.before.before.before.before.before.
     let q = d.before.before.loop in
     let a = d.before.before.before.before.before.args in
     let w = goes (d.segments.ensures ∙ many_once _ _) v.w.given.1 in
-    let j = units-on a.s.now a.end q.left q.at _ (omega arith) w in
+    let j = units_on a.s.now a.end q.left q.at _ (omega arith) w in
     let u = c.before.before.before.before.before.segment-through.ensures in
-    (going-stop q.invariant.0 _ _ _ j _ _ _ u.0 c.before.r.given.1, u.1)
+    (going_stop q.invariant.0 _ _ _ j _ _ _ u.0 c.before.r.given.1, u.1)
 
 enum-known-k : tie.Need-enum-known-k invariant-loop decreases-loop
 enum-known-k c = search rules
@@ -84,7 +84,7 @@ loop-again c = let v = c.before.before.before.before.before.before.before.before
     let q = d.before.before.loop in
     let a = d.before.before.before.before.before.args in
     let w = goes (d.segments.ensures ∙ many_once _ _) v.w.given.1 in
-    let j = units-on a.s.now a.end q.left q.at _ (omega arith) w in
+    let j = units_on a.s.now a.end q.left q.at _ (omega arith) w in
     let u = c.before.before.before.before.before.segment-through.ensures in
     (going_on q.invariant.0 _ _ _ j _ _ (omega arith) u.0 c.before.k.given.1, u.1)
 
@@ -94,7 +94,7 @@ same-length-3 c = search rules
 returns-3 : tie.Need-returns-3 invariant-loop decreases-loop
 returns-3 c = let q = c.before.loop in
     let a = c.before.before.before.before.args in
-    (going_done q.invariant.0 _ (none_joined a.s.now a.end a.m a.from) (units-none a.s.now a.end q.left q.at (omega arith)), q.invariant.1)
+    (going_done q.invariant.0 _ (none_joined a.s.now a.end a.m a.from) (units_none a.s.now a.end q.left q.at (omega arith)), q.invariant.1)
 
 pub all-segments-spec : {M : Type 1} → statement M
 all-segments-spec =

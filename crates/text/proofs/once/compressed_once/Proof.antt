@@ -1,5 +1,5 @@
 -- `compressed_once` meets its contract.
-use Rattle.text.proofs.PassLaws.{once_after, once-text, once-broken}
+use Rattle.text.proofs.PassLaws.{once_after, once_text, once_broken}
 use Rattle.refusal.specs.declared.Refusal.TheVariants.{BrokenText}
 use Rattle.annex_c.specs.Tree.{walked}
 use Rattle.trees.specs.Which.{table_of}
@@ -20,12 +20,12 @@ sub-k c =
 returns : tie.Need-returns
 returns c =
     let a = c.before.before.before.before.args in
-    once-text (walked (table_of a.titles)) a.s.now _ _ a.n _ c.before.before.before.before.requires.1 c.before.read.ensures c.if1.true
+    once_text (walked (table_of a.titles)) a.s.now _ _ a.n _ c.before.before.before.before.requires.1 c.before.read.ensures c.if1.true
 
 returns-2 : tie.Need-returns-2
 returns-2 c =
     let a = c.before.before.before.before.args in
-    once-broken (walked (table_of a.titles)) a.s.now _ _ a.n _ c.before.before.before.before.requires.1 c.before.read.ensures BrokenText refl c.if1.false
+    once_broken (walked (table_of a.titles)) a.s.now _ _ a.n _ c.before.before.before.before.requires.1 c.before.read.ensures BrokenText refl c.if1.false
 
 pub compressed-once-spec : {M : Type 1} → statement M
 compressed-once-spec = tie.close (tie.spec read-requires sub-k returns returns-2)

@@ -1,7 +1,7 @@
 -- `segments_once` meets its contract: what is left of the units leads to the answer, and a unit takes a bit or more.
-use Rattle.text.proofs.JoinLaws.{many_once, units-none, units-bad, units-on, Going, going_first}
+use Rattle.text.proofs.JoinLaws.{many_once, units_none, units_bad, units_on, Going, going_first}
 use Rattle.text.proofs.FewLaws.{segment_end}
-use Rattle.text.proofs.PassLaws.{once-few, onced-refused, onced-done, onced-stop, onced-on}
+use Rattle.text.proofs.PassLaws.{once_few, onced_refused, onced_done, onced_stop, onced_on}
 use Rattle.text.proofs.AmountLaws.{none_joined}
 use Rattle.text.specs.Strings.{joined_units}
 use Rattle.refusal.specs.declared.Refusal.TheVariants.{Body}
@@ -38,7 +38,7 @@ returns c =
     let q = d.loop in
     let a = d.before.before.args in
     let w = goes (c.before.before.segments.ensures ∙ many_once _ _) c.enum_told.given.1 in
-    onced-refused q.invariant.0 _ Body (units-bad a.s.now a.end q.left q.at _ (omega arith) w)
+    onced_refused q.invariant.0 _ Body (units_bad a.s.now a.end q.left q.at _ (omega arith) w)
 
 segment-once-requires : tie.Need-segment-once-requires invariant-loop decreases-loop
 segment-once-requires c κs =
@@ -59,8 +59,8 @@ returns-2 c =
     let q = d.loop in
     let a = d.before.before.args in
     let w = goes (c.before.before.before.before.before.before.before.before.segments.ensures ∙ many_once _ _) c.before.before.before.before.before.before.w.given.1 in
-    let j = units-on a.s.now a.end q.left q.at _ (omega arith) w in
-    onced-stop q.invariant.0 _ _ _ j _ c.before.before.before.segment-once.ensures _ _ c.before.r.given.1
+    let j = units_on a.s.now a.end q.left q.at _ (omega arith) w in
+    onced_stop q.invariant.0 _ _ _ j _ c.before.before.before.segment-once.ensures _ _ c.before.r.given.1
 
 enum-known-k : tie.Need-enum-known-k invariant-loop decreases-loop
 enum-known-k c = search rules
@@ -73,7 +73,7 @@ add-n c =
     let w = goes (c.before.before.before.before.before.before.before.before.segments.ensures ∙ many_once _ _) c.before.before.before.before.before.before.w.given.1 in
     let z = segment_end a.s.now a.end q.at _ w in
     let p = d.before.before.requires in
-    let k = once-few a.s.now q.at _ c.before.before.before.segment-once.ensures c.before.k.given.1 in
+    let k = once_few a.s.now q.at _ c.before.before.before.segment-once.ensures c.before.k.given.1 in
     omega (arith, k, z.0, z.1, p.1, q.invariant.1, q.invariant.2)
 
 sub-left : tie.Need-overflow-sub-left invariant-loop decreases-loop
@@ -90,9 +90,9 @@ loop-again c =
     let w = goes (c.before.before.before.before.before.before.before.before.segments.ensures ∙ many_once _ _) c.before.before.before.before.before.before.w.given.1 in
     let z = segment_end a.s.now a.end q.at _ w in
     let p = d.before.before.requires in
-    let k = once-few a.s.now q.at _ c.before.before.before.segment-once.ensures c.before.k.given.1 in
-    let j = units-on a.s.now a.end q.left q.at _ (omega arith) w in (
-      onced-on q.invariant.0 _ _ _ j _ c.before.before.before.segment-once.ensures _ (omega arith) c.before.k.given.1 (omega (arith, k, z.0, z.1, p.1, q.invariant.1, q.invariant.2)),
+    let k = once_few a.s.now q.at _ c.before.before.before.segment-once.ensures c.before.k.given.1 in
+    let j = units_on a.s.now a.end q.left q.at _ (omega arith) w in (
+      onced_on q.invariant.0 _ _ _ j _ c.before.before.before.segment-once.ensures _ (omega arith) c.before.k.given.1 (omega (arith, k, z.0, z.1, p.1, q.invariant.1, q.invariant.2)),
       omega (arith, z.0, q.invariant.1),
       omega (arith, k, z.0, q.invariant.1, q.invariant.2),
       omega (arith, k, z.0, z.1, p.1, q.invariant.1, q.invariant.2),
@@ -102,7 +102,7 @@ returns-3 : tie.Need-returns-3 invariant-loop decreases-loop
 returns-3 c =
     let q = c.before.loop in
     let a = c.before.before.before.args in
-    onced-done q.invariant.0 _ (none_joined a.s.now a.end a.m a.from) q.invariant.3 (units-none a.s.now a.end q.left q.at (omega arith))
+    onced_done q.invariant.0 _ (none_joined a.s.now a.end a.m a.from) q.invariant.3 (units_none a.s.now a.end q.left q.at (omega arith))
 
 pub segments-once-spec : {M : Type 1} → statement M
 segments-once-spec =

@@ -1,5 +1,5 @@
 -- `any_compressed` meets its contract: where the segments that are left are plain, all are.
-use Rattle.text.proofs.JoinLaws.{many_once, segment_ends, of_none, of-bad, units-none, units-bad, all_plain}
+use Rattle.text.proofs.JoinLaws.{many_once, segment_ends, of_none, of_bad, units_none, units_bad, all_plain}
 use Rattle.text.specs.Strings.{joined_units}
 use Rattle.text.specs.Inner.{plain_units, joined_plain}
 use Rattle.bytes_at.proofs.WalkLaws.{goes}
@@ -35,7 +35,7 @@ returns c =
     let a = c.before.before.before.before.before.before.args in
     let w = goes (c.before.before.segments.ensures ∙ many_once _ _) c.enum_told.given.1 in
     let h : 0 < q.left = omega arith in
-    λ z. q.invariant (of-bad (plain_units a.s.now) a.s.now a.end q.left q.at _ h w ∙ sym (units-bad a.s.now a.end q.left q.at _ h w))
+    λ z. q.invariant (of_bad (plain_units a.s.now) a.s.now a.end q.left q.at _ h w ∙ sym (units_bad a.s.now a.end q.left q.at _ h w))
 
 compressed-at-requires : tie.Need-compressed-at-requires invariant-loop decreases-loop
 compressed-at-requires c κs =
@@ -65,7 +65,7 @@ returns-3 c =
     let q = c.before.loop in
     let a = c.before.before.before.args in
     let h : q.left ≡ 0 = omega arith in
-    λ z. q.invariant (of_none (plain_units a.s.now) a.s.now a.end q.left q.at h ∙ sym (units-none a.s.now a.end q.left q.at h))
+    λ z. q.invariant (of_none (plain_units a.s.now) a.s.now a.end q.left q.at h ∙ sym (units_none a.s.now a.end q.left q.at h))
 
 pub any-compressed-spec : {M : Type 1} → statement M
 any-compressed-spec =

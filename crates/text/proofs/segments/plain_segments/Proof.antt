@@ -1,5 +1,5 @@
 -- `plain_segments` meets its contract: what is left of the units leads to the answer.
-use Rattle.text.proofs.JoinLaws.{many_once, segment_ends, of_none, of-bad, of-on, Going, going_first, wrote_few, going-refused, going_done, going-stop, going_on}
+use Rattle.text.proofs.JoinLaws.{many_once, segment_ends, of_none, of_bad, of_on, Going, going_first, wrote_few, going_refused, going_done, going_stop, going_on}
 use Rattle.text.proofs.AmountLaws.{none_joined}
 use Rattle.text.specs.Inner.{plain_units, joined_plain}
 use Rattle.refusal.specs.declared.Refusal.TheVariants.{Body}
@@ -37,7 +37,7 @@ returns c = let d = c.before.before.before.before in
     let q = d.loop in
     let a = d.before.before.before.args in
     let w = goes (c.before.before.segments.ensures ∙ many_once _ _) c.enum_told.given.1 in
-    going-refused q.invariant _ Body _ (of-bad (plain_units a.s.now) a.s.now a.end q.left q.at _ (omega arith) w)
+    going_refused q.invariant _ Body _ (of_bad (plain_units a.s.now) a.s.now a.end q.left q.at _ (omega arith) w)
 
 plain-at-requires : tie.Need-plain-at-requires invariant-loop decreases-loop
 plain-at-requires c κs = let d = c.before.before.before.before in
@@ -58,8 +58,8 @@ returns-2 c = let v = c.before.before.before.before.before.before.before.before 
     let q = d.before.before.loop in
     let a = d.before.before.before.before.before.args in
     let w = goes (d.segments.ensures ∙ many_once _ _) v.w.given.1 in
-    let j = of-on (plain_units a.s.now) a.s.now a.end q.left q.at _ (omega arith) w in
-    going-stop q.invariant _ _ _ j _ _ _ c.before.before.before.before.before.plain_at.ensures c.before.r.given.1
+    let j = of_on (plain_units a.s.now) a.s.now a.end q.left q.at _ (omega arith) w in
+    going_stop q.invariant _ _ _ j _ _ _ c.before.before.before.before.before.plain_at.ensures c.before.r.given.1
 
 enum-known-k : tie.Need-enum-known-k invariant-loop decreases-loop
 enum-known-k c = search rules
@@ -82,7 +82,7 @@ loop-again c = let v = c.before.before.before.before.before.before.before.before
     let q = d.before.before.loop in
     let a = d.before.before.before.before.before.args in
     let w = goes (d.segments.ensures ∙ many_once _ _) v.w.given.1 in
-    let j = of-on (plain_units a.s.now) a.s.now a.end q.left q.at _ (omega arith) w in
+    let j = of_on (plain_units a.s.now) a.s.now a.end q.left q.at _ (omega arith) w in
     going_on q.invariant _ _ _ j _ _ (omega arith) c.before.before.before.before.before.plain_at.ensures c.before.k.given.1
 
 same-length-3 : tie.Need-same-length-3 invariant-loop decreases-loop

@@ -5,7 +5,7 @@ use lib.ListN.{length, drop, length-take}
 use Rattle.format.specs.Laws.OfBytes.{part_bytes}
 use Rattle.text.proofs.AmountLaws.{replaced_few}
 use Rattle.titles.specs.Titles.{told_of}
-use Rattle.titles.proofs.ReadLaws.{read-refused, read-units}
+use Rattle.titles.proofs.ReadLaws.{read_refused, read_units}
 use borrow.Author.Rules.{rules}
 use Rattle.titles.proofs.title.read_text.Statement.{statement}
 use Rattle.titles.proofs.title.read_text.Tie as tie
@@ -29,7 +29,7 @@ unfolding told_of
 returns c =
     let w = c.before.before.before in
     let e = rw c.before.before.before.before.before.part_of.ensures at w.string-read.ensures in
-    read-refused _ _ _ _ _ e c.before.before.before.before.before.before.before.requires.1 _ c.before.k.given.1
+    read_refused _ _ _ _ _ e c.before.before.before.before.before.before.before.requires.1 _ c.before.k.given.1
 
 returns-2 : tie.Need-returns-2
 unfolding told_of
@@ -38,7 +38,7 @@ returns-2 c =
     let e = rw c.before.before.before.before.before.part_of.ensures at w.string-read.ensures in
     let a = c.before.before.before.before.before.before.before.args in
     let z = c.before.before.before.before.before.before.shared-slice-known.given in
-    read-units _ _ _ _ _ e c.before.before.before.before.before.before.before.requires.1 _ c.before.a.given.1 (replaced_few _ (part_bytes a.s.now a.p.length a.p.start (λ i. omega (arith, z i))) _ 0 0)
+    read_units _ _ _ _ _ e c.before.before.before.before.before.before.before.requires.1 _ c.before.a.given.1 (replaced_few _ (part_bytes a.s.now a.p.length a.p.start (λ i. omega (arith, z i))) _ 0 0)
 
 pub read-text-spec : {M : Type 1} → statement M
 read-text-spec =

@@ -1,10 +1,10 @@
 -- `check` meets its contract: the tests in their order.
 use native.Mathlib.Omega.{arith}
 use borrow.Author.Rules.{rules}
-use Rattle.eit.proofs.GivenLaws.{size-most}
+use Rattle.eit.proofs.GivenLaws.{size_most}
 use Rattle.writing.specs.Written.{eit_written}
 use Rattle.writing.proofs.TestLaws.{refuses, goes_on, told_length}
-use Rattle.writing.proofs.EitLaws.{few-rows, rows-passed, eit-length}
+use Rattle.writing.proofs.EitLaws.{few_rows, rows_passed, eit_length}
 use Rattle.writing.proofs.eits.check.Statement.{statement}
 use Rattle.writing.proofs.eits.check.Tie as tie
 
@@ -29,7 +29,7 @@ events-sound-requires : tie.Need-events-sound-requires
 events-sound-requires c κs =
     let a = c.before.before in
     let g = a.before.before.before.before.args in
-    few-rows g.g g.count g.rows.now g.bytes.now a.before.numbers-have-room.ensures a.if1.false
+    few_rows g.g g.count g.rows.now g.bytes.now a.before.numbers-have-room.ensures a.if1.false
 
 returns-3 : tie.Need-returns-3
 unfolding eit_written
@@ -45,7 +45,7 @@ events-size-requires c κs =
     let a = c.before.before.before.before in
     let g = a.before.before.before.before.args in
     let r =
-    rows-passed g.g g.count g.rows.now g.bytes.now
+    rows_passed g.g g.count g.rows.now g.bytes.now
     a.before.numbers-have-room.ensures a.if1.false c.before.events-sound.ensures c.if3.false in
     (omega (arith, r.0.inside), (r.1, r.0.fits))
 
@@ -55,9 +55,9 @@ add-length-of c =
     let a = s.before.before.before.before in
     let g = a.before.before.before.before.args in
     let r =
-    rows-passed g.g g.count g.rows.now g.bytes.now
+    rows_passed g.g g.count g.rows.now g.bytes.now
     a.before.numbers-have-room.ensures a.if1.false s.before.events-sound.ensures s.if3.false in
-    omega (arith, c.events-size.ensures, size-most g.rows.now g.count 0 r.0.fits, r.1)
+    omega (arith, c.events-size.ensures, size_most g.rows.now g.count 0 r.0.fits, r.1)
 
 length-of-requires : tie.Need-length-of-requires
 length-of-requires c κs = search rules
@@ -70,9 +70,9 @@ returns-4 c =
     let a = b.before.before in
     let g = a.before.before.before.before.args in
     let r =
-    rows-passed g.g g.count g.rows.now g.bytes.now
+    rows_passed g.g g.count g.rows.now g.bytes.now
     a.before.numbers-have-room.ensures a.if1.false t.before.events-sound.ensures t.if3.false in
-    let l = eit-length g.g g.count g.rows.now g.bytes.now r.0.sound in
+    let l = eit_length g.g g.count g.rows.now g.bytes.now r.0.sound in
     goes_on 23 _ _ a.before.numbers-have-room.ensures a.if1.false
     (goes_on 8 _ _ b.before.numbers_fit.ensures b.if2.false
     (goes_on 9 _ _ t.before.events-sound.ensures t.if3.false

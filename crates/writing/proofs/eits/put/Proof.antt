@@ -7,7 +7,7 @@ use Rattle.eit.specs.Format.{eit_of}
 use Rattle.eit.specs.Given.{events_given}
 use Rattle.section.proofs.WritingLaws.{assembled}
 use Rattle.writing.specs.Written.{eit_bytes}
-use Rattle.writing.proofs.EitLaws.{body-length}
+use Rattle.writing.proofs.EitLaws.{body_length}
 use Rattle.writing.proofs.eits.put.Statement.{statement}
 use Rattle.writing.proofs.eits.put.Tie as tie
 
@@ -37,7 +37,7 @@ returns c =
     let s = h.before.before.before.before.before in
     let g = s.args in
     let f = s.requires in
-    let l = body-length g.g g.count g.rows.now g.bytes.now f.given.sound in
+    let l = body_length g.g g.count g.rows.now g.bytes.now f.given.sound in
     assembled g.out.now Eit g.g ((eit_of any_bytes any_bytes).enc (record { events = events_given g.rows.now g.bytes.now g.count 0 })) _
     (omega (arith, l, f.whole)) (omega (arith, f.fits.room, f.whole))
     h.put-header.ensures b.put-body.ensures c.before.before.seal.ensures

@@ -2,7 +2,7 @@
 use borrow.Author.Rules.{rules}
 use Rattle.writing.specs.Written.{ett_written}
 use Rattle.writing.proofs.TestLaws.{refuses, goes_on, told_length}
-use Rattle.writing.proofs.EttLaws.{ett-length}
+use Rattle.writing.proofs.EttLaws.{ett_length}
 use Rattle.writing.proofs.etts.check.Statement.{statement}
 use Rattle.writing.proofs.etts.check.Tie as tie
 
@@ -33,7 +33,7 @@ returns-3 c =
     let a = b.before.before in
     goes_on 23 _ _ a.before.numbers-have-room.ensures a.if1.false
     (goes_on 8 _ _ b.before.numbers_fit.ensures b.if2.false
-    (refuses 9 _ _ c.before.text-sound.ensures c.if3.true))
+    (refuses 9 _ _ c.before.text_sound.ensures c.if3.true))
 
 length-with-requires : tie.Need-length-with-requires
 length-with-requires c κs = search rules
@@ -47,8 +47,8 @@ returns-4 c =
     let g = a.before.before.before.args in
     goes_on 23 _ _ a.before.numbers-have-room.ensures a.if1.false
     (goes_on 8 _ _ b.before.numbers_fit.ensures b.if2.false
-    (goes_on 9 _ _ t.before.text-sound.ensures t.if3.false
-    (told_length _ _ _ _ (ett-length g.g g.etm g.t.now) c.length-with.ensures)))
+    (goes_on 9 _ _ t.before.text_sound.ensures t.if3.false
+    (told_length _ _ _ _ (ett_length g.g g.etm g.t.now) c.length-with.ensures)))
 
 pub check-spec : {M : Type 1} → statement M
 check-spec =

@@ -5,7 +5,7 @@ use Rattle.format.specs.Formats.{any_bytes}
 use Rattle.ett.specs.Format.{ett_of}
 use Rattle.section.proofs.WritingLaws.{assembled}
 use Rattle.writing.specs.Written.{ett_bytes}
-use Rattle.writing.proofs.EttLaws.{body-length}
+use Rattle.writing.proofs.EttLaws.{body_length}
 use Rattle.writing.proofs.etts.put.Statement.{statement}
 use Rattle.writing.proofs.etts.put.Tie as tie
 
@@ -35,7 +35,7 @@ returns c =
     let s = h.before.before.before.before in
     let g = s.args in
     assembled g.out.now Ett g.g ((ett_of any_bytes).enc (record { etm = g.etm; text = g.t.now })) _
-    (body-length g.g g.etm g.t.now) s.requires.0.room
+    (body_length g.g g.etm g.t.now) s.requires.0.room
     h.put-header.ensures b.put-body.ensures c.before.before.seal.ensures
 
 pub put_spec : {M : Type 1} → statement M

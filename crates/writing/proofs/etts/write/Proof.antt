@@ -4,7 +4,7 @@ use borrow.Author.Rules.{rules}
 use Rattle.refusal.specs.Outputs.{output_after}
 use Rattle.writing.specs.Answers.{written_outcome}
 use Rattle.writing.proofs.OnceLaws.{buffer_keeps}
-use Rattle.writing.proofs.EttLaws.{ett-passed}
+use Rattle.writing.proofs.EttLaws.{ett_passed}
 use Rattle.writing.proofs.etts.write.Statement.{statement}
 use Rattle.writing.proofs.etts.write.Tie as tie
 
@@ -28,7 +28,7 @@ put-requires c κs =
     let q = c.before.before in
     let k = q.before.before in
     let e = sym (ap written_outcome q.checked.given.1) ∙ k.check.ensures in
-    (ett-passed _ _ _ _ _ e).0
+    (ett_passed _ _ _ _ _ e).0
 
 same_length : tie.Need-same-length
 same_length c = search rules
@@ -40,7 +40,7 @@ returns-2 c =
     let k = q.before.before in
     let g = k.before.before.before.args in
     let e = sym (ap written_outcome q.checked.given.1) ∙ k.check.ensures in
-    (e, p.put.ensures ∙ ap (output_after g.out.now) (sym (ett-passed _ _ _ _ _ e).1))
+    (e, p.put.ensures ∙ ap (output_after g.out.now) (sym (ett_passed _ _ _ _ _ e).1))
 
 pub write_spec : {M : Type 1} → statement M
 write_spec =
