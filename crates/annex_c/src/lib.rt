@@ -1,5 +1,7 @@
 // The decode tables of annex C as constants, shown to be the lists of specs/ byte by byte. No decoder names them, since a constant
 // that a leaf names is stored anew at every call: `trees` has the same bytes by a match, shown to be the same lists.
+#![tactic(auto)]
+
 mod type1;
 mod type2;
 

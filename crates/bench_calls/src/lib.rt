@@ -1,4 +1,6 @@
 // What the programs in bench/ measure, under C names.
+#![tactic(auto)]
+
 mod shelves;
 mod single;
 mod writers;

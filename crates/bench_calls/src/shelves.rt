@@ -8,7 +8,7 @@ use shelf::{Change, Progress};
 use shelf_state::{Asked, Shelf};
 
 // A shelf, and how many of the calls that led to it answered as the measurement wants.
-#[derive(Drop)]
+#[derive(Clone, Copy)]
 struct Tally {
     good: u64,
     shelf: Shelf,

@@ -5,7 +5,7 @@ use shelf::{Change, Fetched, Progress};
 
 // Where a kept section stands in the area.
 #[repr(C)]
-#[derive(Drop)]
+#[derive(Clone, Copy)]
 pub struct Span {
     pub start: usize,
     pub length: usize,

@@ -1,5 +1,7 @@
 // Fields of a byte slice and steps within a container: every index, cast and sum of offsets stands
 // here, so that the walks above have none.
+#![tactic(auto)]
+
 ghost use Rattle.std.specs.Prelude.{◌≡◌, [], ◌∷◌, ◌-◌, ◌*◌, ◌<◌};
 ghost use Rattle.bytes_at.specs.Bits.{bits_at};
 ghost use Rattle.bytes_at.specs.Fields.{byte_at, word_at};
@@ -7,7 +9,7 @@ ghost use Rattle.bytes_at.specs.Inner.{long_at};
 ghost use Rattle.bytes_at.specs.Walks.{skip_to, fields_to, ends};
 
 // Where a walk stands, or the offset of the field that is to blame.
-#[derive(Drop)]
+#[derive(Clone, Copy)]
 pub enum Walk {
     To(usize),
     Bad(usize),

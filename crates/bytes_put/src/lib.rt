@@ -1,4 +1,6 @@
 // Bytes put into a lent buffer, the high byte first.
+#![tactic(auto)]
+
 ghost use Rattle.std.specs.Prelude.{◌≡◌, ◌+◌, ◌<◌, ◌≤◌, length};
 ghost use Rattle.std.proofs.lemmas.List.Edits.{sets};
 ghost use Rattle.part.specs.Parts.{end_of, bytes_in};

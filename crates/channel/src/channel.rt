@@ -7,7 +7,7 @@ use descriptor::list_at;
 use part::Part;
 
 // The seven 16-bit units of a short name.
-#[derive(Drop)]
+#[derive(Clone, Copy)]
 pub struct Name {
     pub n0: u32,
     pub n1: u32,
@@ -19,7 +19,7 @@ pub struct Name {
 }
 
 // The number under which a channel is shown, and where it is sent.
-#[derive(Drop)]
+#[derive(Clone, Copy)]
 pub struct Tuning {
     pub major: u32,
     pub minor: u32,
@@ -30,7 +30,7 @@ pub struct Tuning {
 }
 
 // What is sent there. The six bits are kept as one number.
-#[derive(Drop)]
+#[derive(Clone, Copy)]
 pub struct Service {
     pub etm_location: u32,
     pub access_controlled: u32,
@@ -41,7 +41,7 @@ pub struct Service {
 }
 
 // Its numbers are of 32 bits, as those of a row are.
-#[derive(Drop)]
+#[derive(Clone, Copy)]
 pub struct Channel {
     pub name: Name,
     pub tuning: Tuning,

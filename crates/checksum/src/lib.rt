@@ -3,6 +3,7 @@
 // each as what the bits after it will make of it (src/tables.rt), and what is looked up is added. It has 40 bits, and is
 // not brought down to 32: it stands for the register eight bits ahead (specs/Ahead.antt). One byte more leads back to the
 // register itself, so a block goes in only where another byte follows it.
+#![tactic(auto)]
 
 ghost use Rattle.std.specs.Prelude.{◌≡◌, [], ◌∷◌, ◌+◌, ◌^◌, ◌≤◌, ◌<◌, eqb, length, take, drop};
 ghost use Rattle.checksum.specs.Register.{bit_in, bits_in, register_from, register, four_bytes};

@@ -1,4 +1,6 @@
 // Judging descriptor lists and the content advisory, and where a list with its length stands.
+#![tactic(auto)]
+
 ghost use Rattle.std.specs.Prelude.{◌≡◌, [], ◌∷◌, ℕ, ◌+◌, ◌<◌, ◌≤◌, length};
 ghost use Rattle.bytes_at.specs.Walks.{many, fields_to};
 ghost use Rattle.format.specs.Lawful.{unto};

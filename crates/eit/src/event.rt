@@ -9,14 +9,14 @@ use part::Part;
 use strings::{text_at, text_end};
 
 // A title is one of three.
-#[derive(Drop)]
+#[derive(Clone, Copy)]
 pub enum Title {
     None,
     NoStrings,
     Text(Part),
 }
 
-#[derive(Drop)]
+#[derive(Clone, Copy)]
 pub struct Event {
     pub event_id: usize,
     pub start_time: usize,

@@ -1,5 +1,7 @@
 // The event information table: its walk, its fields, its events and what is asked of them. Nothing is
 // judged here: places are those of a section that was.
+#![tactic(auto)]
+
 mod ask;
 mod event;
 mod numbers;

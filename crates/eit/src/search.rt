@@ -6,7 +6,7 @@ ghost use Rattle.eit.specs.Inner.{Events};
 use crate::event::event_end;
 use bytes_at::word;
 
-#[derive(Drop)]
+#[derive(Clone, Copy)]
 pub enum Sought {
     At(usize),
     Nowhere,

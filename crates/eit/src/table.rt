@@ -4,7 +4,7 @@ ghost use Rattle.eit.specs.Fields.{count_at, first_at, fields_at};
 
 use bytes_at::byte;
 
-#[derive(Drop)]
+#[derive(Clone, Copy)]
 pub struct Table {
     pub source: usize,
     pub count: usize,

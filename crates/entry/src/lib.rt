@@ -1,4 +1,6 @@
 // The entries that tables repeat, and where entry i of a section begins.
+#![tactic(auto)]
+
 ghost use Rattle.std.specs.Prelude.{◌≡◌, ◌≤◌, length};
 ghost use Rattle.bytes_at.specs.Walks.{standing};
 ghost use Rattle.entry.specs.Entries.{entry_count, first_entry, entry_walk, spot_in, spot_of, rest_in, value_spot, spot_outcome};
@@ -11,7 +13,7 @@ use refusal::Refusal;
 use section::inner::{body_end, body_start};
 use section::{Head, judge_kind};
 
-#[derive(Drop)]
+#[derive(Clone, Copy)]
 pub enum Entry {
     Table,
     Channel,
@@ -20,7 +22,7 @@ pub enum Entry {
 }
 
 // Where an entry, or what follows all entries, begins, or a refusal.
-#[derive(Drop)]
+#[derive(Clone, Copy)]
 pub enum Spot {
     Refused(Refusal),
     At(usize),

@@ -1,5 +1,7 @@
 // The extended text table: its walk, its fields, and its body written. Nothing is judged here: places
 // are those of a section that was.
+#![tactic(auto)]
+
 mod table;
 mod walk;
 mod write;

@@ -5,7 +5,7 @@ ghost use Rattle.ett.specs.Fields.{fields_at};
 use bytes_at::{less, long};
 use part::Part;
 
-#[derive(Drop)]
+#[derive(Clone, Copy)]
 pub struct Table {
     pub extension: usize,
     pub etm_id: usize,

@@ -1,4 +1,6 @@
 // Prints when each event of an EIT starts, until there is no further event (13) or for what else the section is refused.
+#![tactic(auto)]
+
 use reading::eits::{EntryAnswer, entry};
 
 fn say(words: &[u8], number: usize) {

@@ -1,10 +1,12 @@
 // The table kinds: what the table of SCOPE 1.5 says of each, in constants of the type.
+#![tactic(auto)]
+
 ghost use Rattle.std.specs.Prelude.{◌≡◌};
 ghost use Rattle.kind.specs.Kinds.{limits_of, table_id_of, kind_of, only_of};
 
 use refusal::Refusal;
 
-#[derive(Drop)]
+#[derive(Clone, Copy)]
 pub enum Kind {
     Mgt,
     Tvct,
@@ -16,7 +18,7 @@ pub enum Kind {
 // The range of section_length, the largest last_section_number, the offset of the byte that must be 0
 // and the refusal where it is not, the offset of the body's first byte, and whether a watch may be
 // opened on the kind.
-#[derive(Drop)]
+#[derive(Clone, Copy)]
 pub struct Limits {
     pub smallest: usize,
     pub largest: usize,
@@ -28,7 +30,7 @@ pub struct Limits {
 }
 
 // The kind that has a table_id, where a call reads it.
-#[derive(Drop)]
+#[derive(Clone, Copy)]
 pub enum Found {
     Is(Kind),
     Nothing,

@@ -1,4 +1,6 @@
 // The shelf in lent memory: a list of watch records, rows of numbers for the places, and the area, all changed where they stand.
+#![tactic(auto)]
+
 pub mod by_value;
 mod calls;
 mod on_book;

@@ -10,7 +10,7 @@ use shelf_state::{Edition, Key, Watch};
 
 // A watch record as it is lent: `live` and `heard` are set where they are not 0.
 #[repr(C)]
-#[derive(Drop)]
+#[derive(Clone, Copy)]
 pub struct LentWatch {
     pub live: u8,
     pub key: Key,
@@ -21,14 +21,14 @@ pub struct LentWatch {
 }
 
 // The records by value: how many are lent, and what the first sixteen mean, closed past the end.
-#[derive(Drop)]
+#[derive(Clone, Copy)]
 pub struct Book {
     pub records: usize,
     pub watches: [Watch; 16],
 }
 
 // How a call ends: its number, and the one record to write, past the end where none is.
-#[derive(Drop)]
+#[derive(Clone, Copy)]
 pub struct Ending {
     pub number: u32,
     pub at: usize,
@@ -36,13 +36,13 @@ pub struct Ending {
 }
 
 // A call's number, and the records after it.
-#[derive(Drop)]
+#[derive(Clone, Copy)]
 pub struct Called {
     pub number: u32,
     pub watches: [LentWatch; 16],
 }
 
-#[derive(Drop)]
+#[derive(Clone, Copy)]
 pub struct Four {
     pub a: Watch,
     pub b: Watch,

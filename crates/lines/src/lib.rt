@@ -1,4 +1,6 @@
 // The bytes that the lister prints, put into a lent output. What has no room is left out, and the answer is how many bytes were put.
+#![tactic(auto)]
+
 mod event;
 mod records;
 mod sections;

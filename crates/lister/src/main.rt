@@ -1,5 +1,7 @@
 // The lister: reads records from standard input and prints what each holds, one write a record. The steps and their lines are made by
 // `listing`; here are only the reading and the writing.
+#![tactic(auto)]
+
 ghost use Rattle.std.specs.Prelude.{◌≡◌, true, ◌-◌, ◌≤◌, ◌<◌, length};
 ghost use Rattle.std.proofs.lemmas.List.Edits.{sets};
 ghost use Rattle.lister.specs.Reading.{in_hand, ReadMeans, Fetched, StepsTaken};
@@ -14,7 +16,7 @@ const ROOM: usize = 65536;
 const LINES: usize = 262144;
 
 // The bytes in hand, from one place of the room up to another, and how the input stands behind them.
-#[derive(Drop)]
+#[derive(Clone, Copy)]
 struct Hand {
     from: usize,
     to: usize,
@@ -22,7 +24,7 @@ struct Hand {
 }
 
 // The number of the next record, how many bytes are done with, and whether the run goes on.
-#[derive(Drop)]
+#[derive(Clone, Copy)]
 struct Answered {
     number: usize,
     taken: usize,

@@ -1,4 +1,6 @@
 // The lister's listing, record by record: one step over the bytes in hand.
+#![tactic(auto)]
+
 ghost use Rattle.std.specs.Prelude.{◌≡◌};
 ghost use Rattle.listing.specs.Steps.{short_step, step_of, Tells};
 
@@ -6,7 +8,7 @@ use lines::{put_bad, put_last, put_record};
 use record::{HEAD, is_whole, to_come};
 
 // How the input stands behind the bytes in hand: more of it may come, it ended, or it could not be read.
-#[derive(Drop)]
+#[derive(Clone, Copy)]
 pub enum Input {
     More,
     Ended,
@@ -14,7 +16,7 @@ pub enum Input {
 }
 
 // What comes next: the next record, a wait for more input, or nothing.
-#[derive(Drop)]
+#[derive(Clone, Copy)]
 pub enum Next {
     Record,
     Wait,
@@ -22,7 +24,7 @@ pub enum Next {
 }
 
 // How many of the bytes in hand are done with, how many bytes of the output were put, and what comes next.
-#[derive(Drop)]
+#[derive(Clone, Copy)]
 pub struct Stepped {
     pub taken: usize,
     pub put: usize,

@@ -7,7 +7,7 @@ use descriptor::list_at;
 use part::Part;
 
 // A table that an MGT defines.
-#[derive(Drop)]
+#[derive(Clone, Copy)]
 pub struct Defined {
     pub table_type: usize,
     pub pid: usize,

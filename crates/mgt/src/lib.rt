@@ -1,5 +1,7 @@
 // The master guide table: its walk, its fields and the tables that it defines. Nothing is judged here:
 // places are those of a section that was.
+#![tactic(auto)]
+
 mod defined;
 mod numbers;
 mod table;

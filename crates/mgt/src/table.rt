@@ -6,7 +6,7 @@ use bytes_at::word;
 use descriptor::list_at;
 use part::Part;
 
-#[derive(Drop)]
+#[derive(Clone, Copy)]
 pub struct Table {
     pub tables_defined: usize,
     pub descriptors: Part,

@@ -1,6 +1,8 @@
 // Questions to a descriptor list that has been judged, as an event of an EIT has one. The list stands
 // in the section s from `from` to `end`. Nothing is asked of the caller: what does not fit into the
 // list is not there.
+#![tactic(auto)]
+
 ghost use Rattle.std.specs.Prelude.{◌≡◌, ◌+◌, ◌-◌, ◌<◌, ◌≤◌};
 ghost use Rattle.std.proofs.Math.Option.{none};
 ghost use Rattle.bytes_at.specs.Fields.{byte_at};
@@ -10,7 +12,7 @@ use bytes_at::byte;
 use descriptor::CONTENT_ADVISORY;
 
 // What a rating question answers. Absent is not 0.
-#[derive(Drop)]
+#[derive(Clone, Copy)]
 pub enum Rating {
     NoAdvisory,
     RegionAbsent,
@@ -19,7 +21,7 @@ pub enum Rating {
 }
 
 // A descriptor, by its tag and the place of its content.
-#[derive(Drop)]
+#[derive(Clone, Copy)]
 pub enum SoughtDescriptor {
     Is {
         tag: usize,
@@ -30,7 +32,7 @@ pub enum SoughtDescriptor {
 }
 
 // Where a text stands.
-#[derive(Drop)]
+#[derive(Clone, Copy)]
 pub enum SoughtText {
     Is { start: usize, size: usize },
     Nothing,

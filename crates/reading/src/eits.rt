@@ -17,31 +17,31 @@ use refusal::Refusal;
 use section::inner::body_start;
 use section::{Head, judge_kind};
 
-#[derive(Drop)]
+#[derive(Clone, Copy)]
 pub enum TableAnswer {
     Refused(Refusal),
     Are(Table),
 }
 
-#[derive(Drop)]
+#[derive(Clone, Copy)]
 pub enum EntryAnswer {
     Refused(Refusal),
     Is(Event),
 }
 
-#[derive(Drop)]
+#[derive(Clone, Copy)]
 pub enum RatingAnswer {
     Refused(Refusal),
     Is(Rating),
 }
 
-#[derive(Drop)]
+#[derive(Clone, Copy)]
 pub enum DescriptorAnswer {
     Refused(Refusal),
     Is(usize, Part),
 }
 
-#[derive(Drop)]
+#[derive(Clone, Copy)]
 pub enum TextAnswer {
     Refused(Refusal),
     Is(Part),

@@ -9,7 +9,7 @@ use refusal::Refusal;
 use section::inner::{body_end, body_start};
 use section::{Head, judge_kind};
 
-#[derive(Drop)]
+#[derive(Clone, Copy)]
 pub enum TableAnswer {
     Refused(Refusal),
     Are(Table),

@@ -11,13 +11,13 @@ use refusal::Refusal;
 use section::inner::body_start;
 use section::{Head, judge_kind};
 
-#[derive(Drop)]
+#[derive(Clone, Copy)]
 pub enum TableAnswer {
     Refused(Refusal),
     Are(Table),
 }
 
-#[derive(Drop)]
+#[derive(Clone, Copy)]
 pub enum EntryAnswer {
     Refused(Refusal),
     Is(Defined),

@@ -14,13 +14,13 @@ pub use rrt::{Dimension, Table, ValueTexts};
 use section::inner::body_start;
 use section::{Head, judge_kind};
 
-#[derive(Drop)]
+#[derive(Clone, Copy)]
 pub enum TableAnswer {
     Refused(Refusal),
     Are(Table),
 }
 
-#[derive(Drop)]
+#[derive(Clone, Copy)]
 pub enum EntryAnswer {
     Refused(Refusal),
     Is(Dimension),
@@ -57,7 +57,7 @@ pub fn entry(s: &[u8], i: usize) -> EntryAnswer
     }
 }
 
-#[derive(Drop)]
+#[derive(Clone, Copy)]
 pub enum ValueAnswer {
     Refused(Refusal),
     Is(ValueTexts),

@@ -13,13 +13,13 @@ use section::{Head, judge_kind};
 pub use tvct::Table;
 use tvct::fields_at;
 
-#[derive(Drop)]
+#[derive(Clone, Copy)]
 pub enum TableAnswer {
     Refused(Refusal),
     Are(Table),
 }
 
-#[derive(Drop)]
+#[derive(Clone, Copy)]
 pub enum EntryAnswer {
     Refused(Refusal),
     Is(Channel),

@@ -1,4 +1,6 @@
 // The frame that a section is stored in: a record of the mark, PID and the section. Bytes are read here, and not judged.
+#![tactic(auto)]
+
 ghost use Rattle.std.specs.Prelude.{◌≡◌, ◌<◌};
 ghost use Rattle.record.specs.Records.{to_come, whole, pid_in, section_in};
 

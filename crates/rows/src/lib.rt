@@ -1,5 +1,7 @@
 // All entries of a table at once, and all values of an RRT: the section is judged once, and a lent
 // list of numbers takes a row for each.
+#![tactic(auto)]
+
 mod values;
 
 ghost use Rattle.std.specs.Prelude.{◌≡◌, ◌+◌, ◌*◌, ◌≤◌, length};
@@ -24,7 +26,7 @@ pub use values::value_rows;
 // the number of its values. An event's has eight: event_id, start_time, ETM_location,
 // length_in_seconds, where the title begins, title_length, where the descriptors begin,
 // descriptors_length.
-#[derive(Drop)]
+#[derive(Clone, Copy)]
 pub enum Row {
     Table,
     Channel,
@@ -33,7 +35,7 @@ pub enum Row {
 }
 
 // How many rows there are, or a refusal.
-#[derive(Drop)]
+#[derive(Clone, Copy)]
 pub enum RowsAnswer {
     Refused(Refusal),
     Are(usize),

@@ -7,14 +7,14 @@ use bytes_at::byte;
 use part::Part;
 use strings::{text_at, text_end};
 
-#[derive(Drop)]
+#[derive(Clone, Copy)]
 pub struct Dimension {
     pub name: Part,
     pub graduated_scale: usize,
     pub values: usize,
 }
 
-#[derive(Drop)]
+#[derive(Clone, Copy)]
 pub struct ValueTexts {
     pub short_text: Part,
     pub long_text: Part,

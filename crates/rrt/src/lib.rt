@@ -1,5 +1,7 @@
 // The rating region table: its walk, its fields, its dimensions and their values. Nothing is judged
 // here: places are those of a section that was.
+#![tactic(auto)]
+
 mod dimension;
 mod numbers;
 mod table;

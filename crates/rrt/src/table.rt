@@ -8,7 +8,7 @@ use part::Part;
 use strings::{text_at, text_end};
 
 // The region is the low byte of the extension.
-#[derive(Drop)]
+#[derive(Clone, Copy)]
 pub struct Table {
     pub extension: usize,
     pub region: usize,

@@ -9,7 +9,7 @@ use kind::{Found, Kind, Limits};
 use refusal::Refusal;
 
 // The header's fields, as numbers.
-#[derive(Drop)]
+#[derive(Clone, Copy)]
 pub struct Header {
     pub kind: Kind,
     pub extension: usize,
@@ -19,7 +19,7 @@ pub struct Header {
     pub last: usize,
 }
 
-#[derive(Drop)]
+#[derive(Clone, Copy)]
 pub enum Head {
     Refused(Refusal),
     Passes(Header),

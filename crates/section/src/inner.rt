@@ -21,7 +21,7 @@ use refusal::Refusal;
 
 // A refusal by one of the tests 1 to 8; a body that fails test 9, and the offset of the field that is
 // to blame; or a sound section, and its header.
-#[derive(Drop)]
+#[derive(Clone, Copy)]
 pub enum Inspected {
     Refused(Refusal),
     Broken(usize),

@@ -1,5 +1,7 @@
 // Judging a section: the header's tests 1 to 8, then the body, test 9, in the order of SCOPE 6.2.
 // Writing one: the tests of what is given, and what stands before its body and behind it.
+#![tactic(auto)]
+
 mod header;
 pub mod inner;
 mod judge;

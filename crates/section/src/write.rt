@@ -5,7 +5,7 @@ ghost use Rattle.section.specs.Writing.{header_fits, numbers_fit, length_fits};
 use kind::Kind;
 
 // What a header is given by: the rest of it is told by the kind and the body.
-#[derive(Drop)]
+#[derive(Clone, Copy)]
 pub struct Given {
     pub extension: usize,
     pub version: usize,

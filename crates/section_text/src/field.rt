@@ -20,7 +20,7 @@ use section::{Head, judge_kind};
 use strings::text_at;
 
 // Which text of a section is asked for, its entries counted from 0.
-#[derive(Drop)]
+#[derive(Clone, Copy)]
 pub enum Which {
     // of event i
     Title(usize),
@@ -37,7 +37,7 @@ pub enum Which {
 }
 
 // Where a text stands, or a refusal.
-#[derive(Drop)]
+#[derive(Clone, Copy)]
 pub enum Field {
     Refused(Refusal),
     At(Part),

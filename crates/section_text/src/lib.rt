@@ -1,6 +1,8 @@
 // The texts of a section, read where they stand: an event's title and advisory text, the extended text,
 // and the texts of a rating region. The section is judged once, and the string asked for is then read
 // from the field's own bytes.
+#![tactic(auto)]
+
 mod field;
 pub mod inner;
 

@@ -3,6 +3,8 @@
 // answer, or a lent slice, would keep the compiler from making jumps of the calls.
 //
 // A segment has at most 255 bytes, since its number_bytes is one byte, and each unit takes a bit or more: 2,040 units have room.
+#![tactic(auto)]
+
 pub mod inner;
 
 ghost use Rattle.std.specs.Prelude.{◌≡◌, ◌+◌, ◌*◌, ◌<◌, ◌≤◌, length, get_or, take, drop};
@@ -19,14 +21,14 @@ use steps::step_of;
 use trees::{byte_of, root_of};
 
 // What a segment holds: so many units, or the refusal's number.
-#[derive(Drop)]
+#[derive(Clone, Copy)]
 pub enum Judged {
     Units(usize),
     Refused(u8),
 }
 
 // A coded symbol and the place of the bit after it, or bits that end early.
-#[derive(Drop)]
+#[derive(Clone, Copy)]
 enum ReadSymbol {
     Symbol(u8, usize),
     Early,

@@ -3,13 +3,13 @@ use part::Part;
 use refusal::Refusal;
 use shelf_state::Shelf;
 
-#[derive(Drop)]
+#[derive(Clone, Copy)]
 pub enum Change {
     Refused(Refusal),
     Done,
 }
 
-#[derive(Drop)]
+#[derive(Clone, Copy)]
 pub enum Progress {
     Refused(Refusal),
     NothingHeard,
@@ -18,25 +18,25 @@ pub enum Progress {
 }
 
 // Where a kept section's bytes stand in the area.
-#[derive(Drop)]
+#[derive(Clone, Copy)]
 pub enum Fetched {
     Refused(Refusal),
     At(Part),
 }
 
-#[derive(Drop)]
+#[derive(Clone, Copy)]
 pub struct AfterChange {
     pub answer: Change,
     pub shelf: Shelf,
 }
 
-#[derive(Drop)]
+#[derive(Clone, Copy)]
 pub struct AfterStatus {
     pub answer: Progress,
     pub shelf: Shelf,
 }
 
-#[derive(Drop)]
+#[derive(Clone, Copy)]
 pub struct AfterFetch {
     pub answer: Fetched,
     pub shelf: Shelf,

@@ -16,7 +16,7 @@ use shelf_state::inner::{find_place, find_watch, free_place, released, wide};
 use shelf_state::{Asked, Edition, Place, Shelf, Watch, obeys_rules};
 
 // The watch that a section goes to.
-#[derive(Drop)]
+#[derive(Clone, Copy)]
 pub enum Owner {
     Refused(Refusal),
     Of(usize),

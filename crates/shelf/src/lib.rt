@@ -1,4 +1,6 @@
 // The shelf: watches are opened and closed, asked for their status and for sections, and sections are delivered.
+#![tactic(auto)]
+
 mod answers;
 mod calls;
 mod delivery;

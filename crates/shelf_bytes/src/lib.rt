@@ -1,6 +1,8 @@
 // A shelf as bytes, for the programs that test and measure: its records and its places (1 byte each), 2 bytes that are left to the program,
 // 16 watches of 10 bytes (open 1, PID 2, table_id 1, extension 2, quota 1, heard 1, version 1, last 1) and 64 places of 5 (taken 1, watch 1,
 // number 1, length 2), numbers with their high byte first. Bytes past the end are 0, and are not written.
+#![tactic(auto)]
+
 ghost use Rattle.std.specs.Prelude.{◌≡◌, ◌<◌};
 
 use shelf_state::{Asked, Edition, Key, Place, Shelf, Watch};

@@ -1,4 +1,6 @@
 // The digest of a shelf's records and places, for the programs that run histories of calls.
+#![tactic(auto)]
+
 use shelf_state::inner::{wide, wide_word};
 use shelf_state::{Edition, Key, Place, Shelf, Watch};
 use test_lines::digest::{Sums, none, number, told};

@@ -1,4 +1,6 @@
 // The shelf's records, their rules, and what is found and changed in them. The calls stand above.
+#![tactic(auto)]
+
 pub mod inner;
 mod records;
 mod rules;

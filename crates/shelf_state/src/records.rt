@@ -5,7 +5,7 @@ ghost use Rattle.shelf_state.specs.Searches.{key_of};
 
 // A watch's key as its record keeps it.
 #[repr(C)]
-#[derive(Drop)]
+#[derive(Clone, Copy)]
 pub struct Key {
     pub pid: u16,
     pub table_id: u8,
@@ -13,7 +13,7 @@ pub struct Key {
 }
 
 // A key as a call names it: wide, so that numbers out of range can be named.
-#[derive(Drop)]
+#[derive(Clone, Copy)]
 pub struct Asked {
     pub pid: usize,
     pub table_id: usize,
@@ -21,14 +21,14 @@ pub struct Asked {
 }
 
 // The edition that a watch collects: none where nothing has been heard.
-#[derive(Drop)]
+#[derive(Clone, Copy)]
 pub struct Edition {
     pub heard: bool,
     pub version: u8,
     pub last: u8,
 }
 
-#[derive(Drop)]
+#[derive(Clone, Copy)]
 pub struct Watch {
     pub live: bool,
     pub key: Key,
@@ -37,7 +37,7 @@ pub struct Watch {
 }
 
 // A place, free or with a section of a watch.
-#[derive(Drop)]
+#[derive(Clone, Copy)]
 pub struct Place {
     pub used: bool,
     pub watch: u8,
@@ -46,7 +46,7 @@ pub struct Place {
 }
 
 // Of the arrays, the first `records` watches and the first `count` places are in use.
-#[derive(Drop)]
+#[derive(Clone, Copy)]
 pub struct Shelf {
     pub watches: [Watch; 16],
     pub records: usize,

@@ -1,5 +1,7 @@
 // The step tables of annex C: where four bits lead from the root of each prior symbol's tree, in one look. They stand beside the
 // trees, which alone say what the codes mean, and are read where they lie, as those are.
+#![tactic(auto)]
+
 mod type1;
 mod type2;
 

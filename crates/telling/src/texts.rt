@@ -6,7 +6,7 @@ use crate::told::wide;
 use section_text::Which;
 
 // The text that is asked for, where there is such a kind of text.
-#[derive(Drop)]
+#[derive(Clone, Copy)]
 pub enum Sought {
     Is(Which),
     Nothing,

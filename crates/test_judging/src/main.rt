@@ -1,4 +1,6 @@
 // Judges the vectors of tests/test_judging.py: the op is the table_id of the kind that is asked for, or 0 for any.
+#![tactic(auto)]
+
 use kind::{Found, Kind};
 use part::part_of;
 use section::Header;

@@ -9,7 +9,7 @@ use test_lines::digest::of_bytes;
 use test_lines::{Vector, number, say, told};
 
 // The records, how many of them are lent, and how many rows.
-#[derive(Drop)]
+#[derive(Clone, Copy)]
 pub struct Held {
     pub watches: [LentWatch; 16],
     pub records: usize,

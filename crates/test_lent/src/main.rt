@@ -1,4 +1,6 @@
 // Runs the histories of tests/shelf_runs.py in lent memory, which goes from call to call: watch records, rows of numbers and an area. The lines are those of test_shelf.
+#![tactic(auto)]
+
 mod calls;
 
 use calls::Held;
@@ -8,7 +10,7 @@ use test_lines::digest::of_bytes;
 use test_lines::number;
 
 // What is held after a vector, and whether there was one.
-#[derive(Drop)]
+#[derive(Clone, Copy)]
 struct Next {
     more: bool,
     held: Held,

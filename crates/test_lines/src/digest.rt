@@ -3,7 +3,7 @@
 use bytes_at::byte;
 use std::num::wrapping_add_u64;
 
-#[derive(Drop)]
+#[derive(Clone, Copy)]
 pub struct Sums {
     pub numbers: u64,
     pub sums: u64,

@@ -1,5 +1,7 @@
 // What the test programs share: how the next vector is read, and the words of which their lines are made.
 // tests/README.md describes both field by field.
+#![tactic(auto)]
+
 pub mod digest;
 
 ghost use Rattle.std.specs.Prelude.{◌<◌};
@@ -10,7 +12,7 @@ use refusal::Refusal;
 const HEAD: usize = 35;
 
 // A vector without its bytes, of which there are `size`. `more` is false where the input has no further one.
-#[derive(Drop)]
+#[derive(Clone, Copy)]
 pub struct Vector {
     pub more: bool,
     pub op: usize,

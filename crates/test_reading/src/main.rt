@@ -1,5 +1,7 @@
 // Asks the questions of tests/test_reading.py. The op's high four bits say of what: 0 EIT, 1 ETT, 2 MGT, 3 TVCT, 4 RRT, and
 // 5 a descriptor list alone; the low four say what is asked.
+#![tactic(auto)]
+
 mod eits;
 mod lists;
 mod mgts;

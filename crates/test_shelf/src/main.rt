@@ -1,5 +1,7 @@
 // Runs the shelves and the histories of calls of tests/test_shelf.py. Of the op r the bytes are a whole shelf (rules.rt); every other op
 // is the letter of a call on the one shelf that goes from call to call (calls.rt), with an area whose bytes stay.
+#![tactic(auto)]
+
 mod calls;
 mod rules;
 
@@ -10,7 +12,7 @@ use test_lines::digest::of_bytes;
 use test_lines::{Vector, number};
 
 // The shelf after a vector, and whether there was one.
-#[derive(Drop)]
+#[derive(Clone, Copy)]
 struct Next {
     more: bool,
     shelf: Shelf,

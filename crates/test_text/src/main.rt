@@ -1,6 +1,8 @@
 // Reads the texts of tests/test_text.py. The op says what the bytes are: 1 and 2 a segment that is compressed so, 3 a text field from a
 // to b of the bytes, 16 to 22 a section, of whose texts it says the sort (sections.rt), and 23 a section, of which all events and
 // titles are asked at once (events.rt). Of a field c is the number of the string and d the room of the output in units.
+#![tactic(auto)]
+
 mod events;
 mod fields;
 mod outputs;

@@ -8,7 +8,7 @@ use test_lines::{Vector, told};
 use text::Units;
 
 // Where the text is read: in a field that is lent alone, in the same field as a part of other bytes, or in a section.
-#[derive(Drop)]
+#[derive(Clone, Copy)]
 pub enum Source {
     Alone,
     Inside,

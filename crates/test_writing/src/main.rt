@@ -1,5 +1,7 @@
 // Writes the sections of tests/test_writing.py, op 1 an EIT and op 2 an ETT, into a buffer that is filled before, so that what changed
 // there shows; what is written is then read and written again. Op 3 is op 1 with every byte of the buffer shown.
+#![tactic(auto)]
+
 mod again;
 mod show;
 

@@ -1,4 +1,6 @@
 // The text of a string as 16-bit units, from a text field.
+#![tactic(auto)]
+
 mod answer;
 mod field;
 pub mod inner;

@@ -14,7 +14,7 @@ use refusal::Refusal;
 use segment::inner::put_unit;
 
 // How a segment is read.
-#[derive(Drop)]
+#[derive(Clone, Copy)]
 pub enum Way {
     Plain,
     Utf16,

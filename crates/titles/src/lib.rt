@@ -1,5 +1,7 @@
 // All events of an EIT with the text of their titles: the section is judged once, and two lent lists take a row for each event and
 // the units of all titles.
+#![tactic(auto)]
+
 mod title;
 
 ghost use Rattle.std.specs.Prelude.{◌≡◌, true, false, ◌*◌, ◌<◌, ◌≤◌, length};
@@ -16,7 +18,7 @@ use section::{Head, judge_kind};
 pub use title::{NO_STRINGS, NO_TITLE, NO_VALUE, TEXT};
 
 // How many events there are, and how many units their titles have, or a refusal.
-#[derive(Drop)]
+#[derive(Clone, Copy)]
 pub enum TitlesAnswer {
     Refused(Refusal),
     Are { events: usize, units: usize },

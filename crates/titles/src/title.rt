@@ -24,7 +24,7 @@ pub const TEXT: u32 = 3;
 pub const NO_VALUE: u32 = 0xffff_ffff;
 
 // A title that was read; the units of a text stand at the array's start.
-#[derive(Drop)]
+#[derive(Clone, Copy)]
 pub enum Found {
     NoTitle,
     NoStrings,

@@ -1,6 +1,8 @@
 // The decode tables of annex C, read where they lie: the compiler makes a table in read-only memory of a match on a dense number,
 // while a constant is stored anew wherever it is named. A match of so many arms is compiled into its caller only where it has one,
 // so each is called from one place, and the offsets of the trees have matches of their own.
+#![tactic(auto)]
+
 mod type1;
 mod type2;
 

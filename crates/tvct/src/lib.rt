@@ -1,5 +1,7 @@
 // The terrestrial virtual channel table: its walk and its fields; its channels are those of `channel`.
 // Nothing is judged here: places are those of a section that was.
+#![tactic(auto)]
+
 mod table;
 mod walk;
 

@@ -6,7 +6,7 @@ use bytes_at::byte;
 use descriptor::list_at;
 use part::Part;
 
-#[derive(Drop)]
+#[derive(Clone, Copy)]
 pub struct Table {
     pub tsid: usize,
     pub count: usize,
