@@ -1,23 +1,41 @@
 // Prints when each event of an EIT starts, until there is no further event (13) or for what else the section is refused.
 #![tactic(auto)]
 
-use reading::eits::{EntryAnswer, entry};
+ghost use Rattle.std.specs.Prelude.{IfOk, ◌≤◌, length};
 
-fn say(words: &[u8], number: usize) {
-    io::write_all(1, words);
-    io::print_decimal(1, number as u64);
-    io::write_all(1, b"\n");
+use reading::eits::{EntryAnswer, entry};
+use std::io;
+use std::io::Read;
+
+// Reads until the room is full or the input ends; answers how many bytes came.
+fn filled(input: &mut impl Read, room: &mut [u8]) -> io::Result<usize>
+    ensures { IfOk result (λ n. n ≤ length room.new) }
+{
+    let mut n = 0;
+    while n < room.len() {
+        let came = input.read(&mut room[n..])?;
+        if came == 0 {
+            return Ok(n);
+        }
+        n += came;
+    }
+    Ok(n)
 }
 
-fn main() {
-    let mut room = io::buffer();
-    let n = io::read_full(0, &mut room);
+fn say(rt: &impl Print, words: &str, number: usize) -> io::Result<()> {
+    println!(rt; "{words} {number}")
+}
+
+fn main(rt: HostRuntime) -> io::Result<()> {
+    let mut room = [0u8; 4096];
+    let n = filled(&mut rt.stdin(), &mut room)?;
     let mut i = 0;
     while i < 256 {
         match entry(&room[..n], i) {
-            EntryAnswer::Is(event) => say(b"start ", event.start_time),
-            EntryAnswer::Refused(why) => return say(b"refused ", why.number() as usize),
+            EntryAnswer::Is(event) => say(&rt, "start", event.start_time)?,
+            EntryAnswer::Refused(why) => return say(&rt, "refused", why.number() as usize),
         }
         i += 1;
     }
+    Ok(())
 }

@@ -1,5 +1,5 @@
 -- What the program's functions hand on: the bytes in hand, and how the input stands.
-use Rattle.std.specs.Prelude.{ℕ, zero, suc, ◌-◌, ◌≤◌, ◌<◌, ◌≡◌, List, length, take, drop, ℤ, pos, negsuc}
+use Rattle.std.specs.Prelude.{ℕ, zero, suc, ◌-◌, ◌≤◌, ◌<◌, ◌≡◌, List, length, take, drop, ℤ, pos, negsuc, Result, Ok, Err}
 use Rattle.listing.specs.declared.Input.{Input}
 use Rattle.listing.specs.declared.Input.TheVariants.{More, Ended}
 use Rattle.listing.specs.declared.Next.TheVariants.{Wait}
@@ -10,6 +10,11 @@ use Rattle.lister.specs.declared.Answered.{Answered}
 -- the bytes of the room from one place up to another
 abbrev pub in_hand : List ℕ → ℕ → ℕ → List ℕ
 in_hand room from to = take (to - from) (drop from room)
+
+-- a read as the number that C tells of it: how many bytes came, or one below 0 where it failed
+abbrev pub told_read : {E : Type 0} → Result ℕ E → ℤ
+told_read (Ok n) = pos n
+told_read (Err e) = negsuc zero
 
 -- SCOPE 8.6: what a read means for the input. One that fails is no end
 abbrev pub ReadMeans : ℤ → Input → Type 0

@@ -2,13 +2,16 @@
 // `listing`; here are only the reading and the writing.
 #![tactic(auto)]
 
+mod unread;
+
 ghost use Rattle.std.specs.Prelude.{◌≡◌, true, ◌-◌, ◌≤◌, ◌<◌, length};
 ghost use Rattle.std.proofs.lemmas.List.Edits.{sets};
-ghost use Rattle.lister.specs.Reading.{in_hand, ReadMeans, Fetched, StepsTaken};
+ghost use Rattle.lister.specs.Reading.{in_hand, told_read, ReadMeans, Fetched, StepsTaken};
 
-use libc::{EINTR, STDIN_FILENO, STDOUT_FILENO};
 use listing::{Input, Next};
 use record::LARGEST;
+use std::io;
+use std::io::{ErrorKind, Read};
 
 // Room for the input, and for the lines of any record.
 const ROOM: usize = 65536;
@@ -32,30 +35,36 @@ struct Answered {
 }
 
 // A read that a signal interrupted is tried again.
-fn input_after(got: isize) -> Input
-    ensures { ReadMeans got result }
+fn input_after(errors: &impl Print, got: io::Result<usize>) -> Input
+    ensures { ReadMeans (told_read got) result }
 {
-    if got > 0 {
-        return Input::More;
+    match got {
+        Ok(0) => Input::Ended,
+        Ok(_) => Input::More,
+        Err(e) => {
+            if e.kind() == ErrorKind::Interrupted {
+                return Input::More;
+            }
+            unread::tell(errors, e);
+            Input::Unread
+        }
     }
-    if got == 0 {
-        return Input::Ended;
-    }
-    if os::errno() == EINTR {
-        return Input::More;
-    }
-    os::fail(b"lister: cannot read the input");
-    Input::Unread
 }
 
 // One read into the room behind what is in hand.
-fn read_behind(room: &mut [u8], from: usize, to: usize) -> Hand
+fn read_behind(
+    source: &mut impl Read,
+    errors: &impl Print,
+    room: &mut [u8],
+    from: usize,
+    to: usize,
+) -> Hand
     requires { (from ≤ to) × (to < length room.old) }
     ensures { Fetched room.old from to result room.new }
 {
-    let got = libc::read(STDIN_FILENO, &mut room[to..]);
-    let input = input_after(got);
-    let came = io::count(got, &room[to..]);
+    let got = source.read(&mut room[to..]);
+    let input = input_after(errors, got);
+    let came = got.unwrap_or(0);
     Hand {
         from,
         to: to + came,
@@ -76,19 +85,25 @@ fn keep(room: &mut [u8], from: usize, to: usize)
     }
 }
 
-fn fetch(room: &mut [u8], from: usize, to: usize) -> Hand
+fn fetch(
+    source: &mut impl Read,
+    errors: &impl Print,
+    room: &mut [u8],
+    from: usize,
+    to: usize,
+) -> Hand
     requires { (from ≤ to) × ((to ≤ length room.old) × ((to - from < 4102) × (length room.old ≡ 65536))) }
     ensures { Fetched room.old from to result room.new }
 {
     if room.len() - to < LARGEST {
         keep(room, from, to);
-        return read_behind(room, 0, to - from);
+        return read_behind(source, errors, room, 0, to - from);
     }
-    read_behind(room, from, to)
+    read_behind(source, errors, room, from, to)
 }
 
 // Every record that is in hand, until more input is needed. The run goes on unless it is over or the output takes no more.
-fn answer(number: usize, held: &[u8], input: Input, out: &mut [u8]) -> Answered
+fn answer(output: &impl Print, number: usize, held: &[u8], input: Input, out: &mut [u8]) -> Answered
     ensures { result.more ≡ true → StepsTaken number held.now input result }
 {
     let mut n = number;
@@ -97,7 +112,7 @@ fn answer(number: usize, held: &[u8], input: Input, out: &mut [u8]) -> Answered
         let s = listing::step(n, &held[at..], input, out);
         let put = s.put;
         let next = s.next;
-        if !io::write_all(STDOUT_FILENO, &out[..put]) {
+        if output.write_all(&out[..put]).is_err() {
             break;
         }
         match next {
@@ -125,7 +140,13 @@ fn answer(number: usize, held: &[u8], input: Input, out: &mut [u8]) -> Answered
 }
 
 // Every record, as it comes, until the run is over.
-fn list(room: &mut [u8], out: &mut [u8])
+fn list(
+    source: &mut impl Read,
+    output: &impl Print,
+    errors: &impl Print,
+    room: &mut [u8],
+    out: &mut [u8],
+)
     requires { length room.old ≡ 65536 }
 {
     let mut h = Hand {
@@ -139,22 +160,23 @@ fn list(room: &mut [u8], out: &mut [u8])
         let from = h.from;
         let to = h.to;
         let input = h.input;
-        let a = answer(number, &room[from..to], input, out);
+        let a = answer(output, number, &room[from..to], input, out);
         if !a.more {
             return;
         }
         number = a.number;
-        h = fetch(room, from + a.taken, to);
+        h = fetch(source, errors, room, from + a.taken, to);
         turns += 1;
     }
 }
 
-fn main() {
+fn main(rt: HostRuntime) {
     let mut room = [0u8; ROOM];
     let mut out = [0u8; LINES];
+    let output = rt.stdout();
     let n = lines::begin(&mut out);
-    if !io::write_all(STDOUT_FILENO, &out[..n]) {
+    if output.write_all(&out[..n]).is_err() {
         return;
     }
-    list(&mut room, &mut out);
+    list(&mut rt.stdin(), &output, &rt.stderr(), &mut room, &mut out);
 }

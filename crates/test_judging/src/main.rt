@@ -5,52 +5,52 @@ use kind::{Found, Kind};
 use part::part_of;
 use section::Header;
 use section::inner::Inspected;
-use test_lines::{number, refused, say, told};
+use std::io;
+use test_lines::{ROOM, number, refused, say, told};
 
-fn show_header(h: Header) {
-    say(b" passes");
+fn show_header(rt: &impl Print, h: Header) -> io::Result<()> {
+    say(rt, b" passes")?;
     let kind = h.kind;
-    number(kind.table_id());
-    number(h.extension);
-    number(h.version);
-    number(h.current);
-    number(h.number);
-    number(h.last);
+    number(rt, kind.table_id())?;
+    number(rt, h.extension)?;
+    number(rt, h.version)?;
+    number(rt, h.current)?;
+    number(rt, h.number)?;
+    number(rt, h.last)
 }
 
-fn show(judged: Inspected) {
+fn show(rt: &impl Print, judged: Inspected) -> io::Result<()> {
     match judged {
-        Inspected::Refused(k) => refused(k),
-        Inspected::Broken(x) => told(b" refused 9 at", x),
-        Inspected::Sound(h) => show_header(h),
+        Inspected::Refused(k) => refused(rt, k),
+        Inspected::Broken(x) => told(rt, b" refused 9 at", x),
+        Inspected::Sound(h) => show_header(rt, h),
     }
 }
 
-fn answer(asked: usize, s: &[u8]) {
+fn answer(rt: &impl Print, asked: usize, s: &[u8]) -> io::Result<()> {
     if asked == 0 {
-        show(section::inner::inspect_any(s));
-        return;
+        return show(rt, section::inner::inspect_any(s));
     }
     match Kind::of(asked) {
-        Found::Is(k) => show(section::inner::inspect_kind(s, k)),
-        Found::Nothing => say(b" no such kind"),
+        Found::Is(k) => show(rt, section::inner::inspect_kind(s, k)),
+        Found::Nothing => say(rt, b" no such kind"),
     }
 }
 
-fn step(n: u64, s: &mut [u8]) -> bool {
-    let v = test_lines::next(n, s);
+fn step(rt: &(impl Input + Print), n: u64, s: &mut [u8]) -> io::Result<bool> {
+    let v = test_lines::next(rt, n, s)?;
     if v.more {
-        answer(v.op, part_of(s, 0, v.size));
-        say(b"\n");
+        answer(rt, v.op, part_of(s, 0, v.size))?;
+        say(rt, b"\n")?;
     }
-    v.more
+    Ok(v.more)
 }
 
-fn main() {
-    let mut s = io::large_buffer();
+fn main(rt: HostRuntime) -> io::Result<()> {
+    let mut s = [0u8; ROOM];
     let mut n: u64 = 0;
-    while n < u64::MAX && step(n, &mut s) {
+    while n < u64::MAX && step(&rt, n, &mut s)? {
         n += 1;
     }
-    test_lines::end(n);
+    test_lines::end(&rt, n)
 }

@@ -5,6 +5,7 @@ use bytes_at::{byte, word};
 use lent::{Called, LentWatch, ROW, blank_record, by_value};
 use part::part_of;
 use shelf_state::{Shelf, sizes_in_range};
+use std::io;
 use test_lines::digest::of_bytes;
 use test_lines::{Vector, number, say, told};
 
@@ -61,87 +62,120 @@ fn question(b: &[u8], amount: usize) -> [u32; 4] {
     [pid, table_id, extension, last]
 }
 
-fn show_change(k: u32) {
+fn show_change(rt: &impl Print, k: u32) -> io::Result<()> {
     if k == 0 {
-        say(b" done");
+        say(rt, b" done")
     } else {
-        told(b" refused", wide(k));
+        told(rt, b" refused", wide(k))
     }
 }
 
-fn show_status(k: u32, reply: &[u32; 3]) {
+fn show_status(rt: &impl Print, k: u32, reply: &[u32; 3]) -> io::Result<()> {
     if k != 0 {
-        show_change(k);
-        return;
+        return show_change(rt, k);
     }
     let c = wide(reply[1]);
     let n = wide(reply[2]);
     match reply[0] {
-        1 => say(b" nothing heard"),
+        1 => say(rt, b" nothing heard"),
         2 => {
-            number(c);
-            told(b" of", n);
+            number(rt, c)?;
+            told(rt, b" of", n)
         }
-        _ => told(b" complete", n),
+        _ => told(rt, b" complete", n),
     }
 }
 
 // A section that was fetched is told by its place and a digest of its bytes.
-fn show_part(k: u32, reply: &[u32; 3], area: &[u8]) {
+fn show_part(rt: &impl Print, k: u32, reply: &[u32; 3], area: &[u8]) -> io::Result<()> {
     if k != 0 {
-        show_change(k);
-        return;
+        return show_change(rt, k);
     }
     let start = wide(reply[1]);
     let length = wide(reply[2]);
-    number(start);
-    number(length);
-    number(of_bytes(part_of(area, start, length)));
+    number(rt, start)?;
+    number(rt, length)?;
+    number(rt, of_bytes(part_of(area, start, length)))
 }
 
-fn opens(ws: [LentWatch; 16], n: usize, rows: &mut [u32], area: &mut [u8], s: &[u8]) -> Called {
+fn opens(
+    rt: &impl Print,
+    ws: [LentWatch; 16],
+    n: usize,
+    rows: &mut [u32],
+    area: &mut [u8],
+    s: &[u8],
+) -> io::Result<Called> {
     let q = question(s, byte(s, 5));
     let mut reply = [0u32; 3];
     let c = by_value::open(ws, n, rows, area, b"", &q, &mut reply);
-    say(b" open");
-    show_change(c.number);
-    c
+    say(rt, b" open")?;
+    show_change(rt, c.number)?;
+    Ok(c)
 }
 
-fn closes(ws: [LentWatch; 16], n: usize, rows: &mut [u32], area: &mut [u8], s: &[u8]) -> Called {
+fn closes(
+    rt: &impl Print,
+    ws: [LentWatch; 16],
+    n: usize,
+    rows: &mut [u32],
+    area: &mut [u8],
+    s: &[u8],
+) -> io::Result<Called> {
     let q = question(s, 0);
     let mut reply = [0u32; 3];
     let c = by_value::close(ws, n, rows, area, b"", &q, &mut reply);
-    say(b" close");
-    show_change(c.number);
-    c
+    say(rt, b" close")?;
+    show_change(rt, c.number)?;
+    Ok(c)
 }
 
-fn tells(ws: [LentWatch; 16], n: usize, rows: &mut [u32], area: &mut [u8], s: &[u8]) -> Called {
+fn tells(
+    rt: &impl Print,
+    ws: [LentWatch; 16],
+    n: usize,
+    rows: &mut [u32],
+    area: &mut [u8],
+    s: &[u8],
+) -> io::Result<Called> {
     let q = question(s, 0);
     let mut reply = [0u32; 3];
     let c = by_value::status(ws, n, rows, area, b"", &q, &mut reply);
-    say(b" status");
-    show_status(c.number, &reply);
-    c
+    say(rt, b" status")?;
+    show_status(rt, c.number, &reply)?;
+    Ok(c)
 }
 
-fn fetches(ws: [LentWatch; 16], n: usize, rows: &mut [u32], area: &mut [u8], s: &[u8]) -> Called {
+fn fetches(
+    rt: &impl Print,
+    ws: [LentWatch; 16],
+    n: usize,
+    rows: &mut [u32],
+    area: &mut [u8],
+    s: &[u8],
+) -> io::Result<Called> {
     let q = question(s, word(s, 5));
     let mut reply = [0u32; 3];
     let c = by_value::fetch(ws, n, rows, area, b"", &q, &mut reply);
-    say(b" fetch");
-    show_part(c.number, &reply, area);
-    c
+    say(rt, b" fetch")?;
+    show_part(rt, c.number, &reply, area)?;
+    Ok(c)
 }
 
-fn delivers(ws: [LentWatch; 16], n: usize, rows: &mut [u32], area: &mut [u8], s: &[u8]) -> Called {
+fn delivers(
+    rt: &impl Print,
+    ws: [LentWatch; 16],
+    n: usize,
+    rows: &mut [u32],
+    area: &mut [u8],
+    s: &[u8],
+) -> io::Result<Called> {
     let q = question(s, 0);
     let mut reply = [0u32; 3];
     let c = by_value::deliver(ws, n, rows, area, part_of(s, 2, s.len()), &q, &mut reply);
-    say(b" deliver");
-    show_change(c.number);
-    c
+    say(rt, b" deliver")?;
+    show_change(rt, c.number)?;
+    Ok(c)
 }
 
 fn clear(rows: &mut [u32]) {
@@ -153,17 +187,17 @@ fn clear(rows: &mut [u32]) {
 }
 
 // Memory of zeros alone, or what there was where its sizes are refused.
-fn empties(h: Held, rows: &mut [u32], s: &[u8]) -> Held {
-    say(b" empty");
+fn empties(rt: &impl Print, h: Held, rows: &mut [u32], s: &[u8]) -> io::Result<Held> {
+    say(rt, b" empty")?;
     let places = byte(s, 0);
     let records = byte(s, 1);
     if sizes_in_range(places, records) {
-        show_change(0);
+        show_change(rt, 0)?;
         clear(rows);
-        return blank(places, records);
+        return Ok(blank(places, records));
     }
-    show_change(14);
-    h
+    show_change(rt, 14)?;
+    Ok(h)
 }
 
 fn letter(op: usize) -> u8 {
@@ -171,43 +205,58 @@ fn letter(op: usize) -> u8 {
 }
 
 fn act(
+    rt: &impl Print,
     op: u8,
     ws: [LentWatch; 16],
     n: usize,
     rows: &mut [u32],
     area: &mut [u8],
     s: &[u8],
-) -> Called {
+) -> io::Result<Called> {
     match op {
-        b'c' => closes(ws, n, rows, area, s),
-        b'd' => delivers(ws, n, rows, area, s),
-        b'f' => fetches(ws, n, rows, area, s),
-        b'o' => opens(ws, n, rows, area, s),
-        _ => tells(ws, n, rows, area, s),
+        b'c' => closes(rt, ws, n, rows, area, s),
+        b'd' => delivers(rt, ws, n, rows, area, s),
+        b'f' => fetches(rt, ws, n, rows, area, s),
+        b'o' => opens(rt, ws, n, rows, area, s),
+        _ => tells(rt, ws, n, rows, area, s),
     }
 }
 
-fn call(op: u8, h: Held, rows: &mut [u32], area: &mut [u8], s: &[u8]) -> Held {
+fn call(
+    rt: &impl Print,
+    op: u8,
+    h: Held,
+    rows: &mut [u32],
+    area: &mut [u8],
+    s: &[u8],
+) -> io::Result<Held> {
     let ws = h.watches;
     let n = in_use(h.count, rows.len());
-    let c = act(op, ws, h.records, &mut rows[..n], area, s);
+    let c = act(rt, op, ws, h.records, &mut rows[..n], area, s)?;
     let watches = c.watches;
-    Held {
+    Ok(Held {
         watches,
         records: h.records,
         count: h.count,
-    }
+    })
 }
 
 // The call on the first bytes of the area, as many as the vector's first number.
-pub fn answer(v: Vector, h: Held, rows: &mut [u32], area: &mut [u8], s: &[u8]) -> Held {
+pub fn answer(
+    rt: &impl Print,
+    v: Vector,
+    h: Held,
+    rows: &mut [u32],
+    area: &mut [u8],
+    s: &[u8],
+) -> io::Result<Held> {
     let op = letter(v.op);
     if op == b'n' {
-        return empties(h, rows, s);
+        return empties(rt, h, rows, s);
     }
     let size = v.a;
     if size <= area.len() {
-        return call(op, h, rows, &mut area[..size], s);
+        return call(rt, op, h, rows, &mut area[..size], s);
     }
-    h
+    Ok(h)
 }

@@ -8,8 +8,13 @@ ghost use Rattle.std.specs.Prelude.{◌<◌};
 
 use bytes_at::{byte, long, word};
 use refusal::Refusal;
+use std::io;
+use std::io::{ErrorKind, Read};
 
 const HEAD: usize = 35;
+
+// Room for the bytes of any vector.
+pub const ROOM: usize = 65536;
 
 // A vector without its bytes, of which there are `size`. `more` is false where the input has no further one.
 #[derive(Clone, Copy)]
@@ -43,47 +48,55 @@ fn vector_of(head: &[u8], more: bool) -> Vector {
 }
 
 // Fills the first `size` places of `s` from the input; false where the input or `s` has fewer.
-fn filled(s: &mut [u8], size: usize) -> bool {
+fn filled<I: Read>(input: &mut I, s: &mut [u8], size: usize) -> io::Result<bool> {
     if s.len() < size {
-        return false;
+        return Ok(false);
     }
-    io::read_full(0, &mut s[..size]) == size
+    match input.read_exact(&mut s[..size]) {
+        Ok(()) => Ok(true),
+        Err(e) => {
+            if e.kind() == ErrorKind::UnexpectedEof {
+                return Ok(false);
+            }
+            Err(e)
+        }
+    }
 }
 
 // The next vector, and in the first places of `s` its bytes. Its number n opens the line.
-pub fn next(n: u64, s: &mut [u8]) -> Vector {
+pub fn next<R: Input + Print>(rt: &R, n: u64, s: &mut [u8]) -> io::Result<Vector> {
+    let mut input = rt.reader();
     let mut head = [0u8; HEAD];
-    let whole = io::read_full(0, &mut head) == HEAD;
+    let whole = filled(&mut input, &mut head, HEAD)?;
     let v = vector_of(&head, whole);
-    if !filled(s, v.size) {
-        return vector_of(b"", false);
+    if !filled(&mut input, s, v.size)? {
+        return Ok(vector_of(b"", false));
     }
     if whole {
-        io::print_decimal(1, n);
+        rt.print(n)?;
     }
-    v
+    Ok(v)
 }
 
-pub fn say(words: &[u8]) {
-    io::write_all(1, words);
+pub fn say(rt: &impl Print, words: &[u8]) -> io::Result<()> {
+    rt.write_all(words)
 }
 
-pub fn number(n: usize) {
-    io::write_all(1, b" ");
-    io::print_decimal(1, n as u64);
+pub fn number(rt: &impl Print, n: usize) -> io::Result<()> {
+    print!(rt; " {n}")
 }
 
-pub fn told(words: &[u8], n: usize) {
-    say(words);
-    number(n);
+pub fn told(rt: &impl Print, words: &[u8], n: usize) -> io::Result<()> {
+    say(rt, words)?;
+    number(rt, n)
 }
 
-pub fn refused(k: Refusal) {
-    told(b" refused", k.number() as usize);
+pub fn refused(rt: &impl Print, k: Refusal) -> io::Result<()> {
+    told(rt, b" refused", k.number() as usize)
 }
 
 // The last line: how many vectors there were.
-pub fn end(n: u64) {
-    io::print_decimal(1, n);
-    say(b" vectors\n");
+pub fn end(rt: &impl Print, n: u64) -> io::Result<()> {
+    rt.print(n)?;
+    say(rt, b" vectors\n")
 }

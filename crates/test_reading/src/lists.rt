@@ -1,37 +1,38 @@
 // Questions to a descriptor list that stands from c to d of the bytes.
 use crate::show;
 use rating::{SoughtDescriptor, SoughtText};
+use std::io;
 use test_lines::{Vector, say, told};
 
-fn place(start: usize, size: usize) {
-    told(b" at", start);
-    told(b" size", size);
+fn place(rt: &impl Print, start: usize, size: usize) -> io::Result<()> {
+    told(rt, b" at", start)?;
+    told(rt, b" size", size)
 }
 
-fn descriptor(found: SoughtDescriptor) {
+fn descriptor(rt: &impl Print, found: SoughtDescriptor) -> io::Result<()> {
     match found {
         SoughtDescriptor::Is { tag, start, size } => {
-            told(b" tag", tag);
-            place(start, size);
+            told(rt, b" tag", tag)?;
+            place(rt, start, size)
         }
-        SoughtDescriptor::Nothing => say(b" no descriptor"),
+        SoughtDescriptor::Nothing => say(rt, b" no descriptor"),
     }
 }
 
-fn text(found: SoughtText) {
+fn text(rt: &impl Print, found: SoughtText) -> io::Result<()> {
     match found {
         SoughtText::Is { start, size } => {
-            say(b" text");
-            place(start, size);
+            say(rt, b" text")?;
+            place(rt, start, size)
         }
-        SoughtText::Nothing => say(b" no text"),
+        SoughtText::Nothing => say(rt, b" no text"),
     }
 }
 
-pub fn answer(v: Vector, s: &[u8]) {
+pub fn answer(rt: &impl Print, v: Vector, s: &[u8]) -> io::Result<()> {
     match v.op % 16 {
-        1 => show::rating(rating::rating_in(s, v.a, v.b, v.d, v.c)),
-        2 => descriptor(rating::descriptor_in(s, v.d, v.c, v.a)),
-        _ => text(rating::advisory_text_in(s, v.a, v.d, v.c)),
+        1 => show::rating(rt, rating::rating_in(s, v.a, v.b, v.d, v.c)),
+        2 => descriptor(rt, rating::descriptor_in(s, v.d, v.c, v.a)),
+        _ => text(rt, rating::advisory_text_in(s, v.a, v.d, v.c)),
     }
 }

@@ -3,37 +3,38 @@ use crate::show::part;
 use crate::stored;
 use reading::mgts;
 use reading::mgts::{EntryAnswer, TableAnswer};
+use std::io;
 use test_lines::{Vector, number, refused};
 
-fn fields(s: &[u8]) {
+fn fields(rt: &impl Print, s: &[u8]) -> io::Result<()> {
     match mgts::fields(s) {
-        TableAnswer::Refused(k) => refused(k),
+        TableAnswer::Refused(k) => refused(rt, k),
         TableAnswer::Are(t) => {
-            number(t.tables_defined);
+            number(rt, t.tables_defined)?;
             let d = t.descriptors;
-            part(d);
+            part(rt, d)
         }
     }
 }
 
-fn entry(s: &[u8], i: usize) {
+fn entry(rt: &impl Print, s: &[u8], i: usize) -> io::Result<()> {
     match mgts::entry(s, i) {
-        EntryAnswer::Refused(k) => refused(k),
+        EntryAnswer::Refused(k) => refused(rt, k),
         EntryAnswer::Is(e) => {
-            number(e.table_type);
-            number(e.pid);
-            number(e.version);
-            number(e.number_bytes);
+            number(rt, e.table_type)?;
+            number(rt, e.pid)?;
+            number(rt, e.version)?;
+            number(rt, e.number_bytes)?;
             let d = e.descriptors;
-            part(d);
+            part(rt, d)
         }
     }
 }
 
-pub fn answer(v: Vector, s: &[u8]) {
+pub fn answer(rt: &impl Print, v: Vector, s: &[u8]) -> io::Result<()> {
     match v.op % 16 {
-        1 => fields(s),
-        2 => entry(s, v.a),
-        _ => stored::answer(v, s),
+        1 => fields(rt, s),
+        2 => entry(rt, s, v.a),
+        _ => stored::answer(rt, v, s),
     }
 }

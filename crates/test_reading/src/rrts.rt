@@ -3,52 +3,53 @@ use crate::show::part;
 use crate::stored;
 use reading::rrts;
 use reading::rrts::{EntryAnswer, TableAnswer, ValueAnswer};
+use std::io;
 use test_lines::{Vector, number, refused};
 
-fn fields(s: &[u8]) {
+fn fields(rt: &impl Print, s: &[u8]) -> io::Result<()> {
     match rrts::fields(s) {
-        TableAnswer::Refused(k) => refused(k),
+        TableAnswer::Refused(k) => refused(rt, k),
         TableAnswer::Are(t) => {
-            number(t.extension);
-            number(t.region);
+            number(rt, t.extension)?;
+            number(rt, t.region)?;
             let n = t.name;
-            part(n);
-            number(t.dimensions);
+            part(rt, n)?;
+            number(rt, t.dimensions)?;
             let d = t.descriptors;
-            part(d);
+            part(rt, d)
         }
     }
 }
 
-fn dimension(s: &[u8], i: usize) {
+fn dimension(rt: &impl Print, s: &[u8], i: usize) -> io::Result<()> {
     match rrts::entry(s, i) {
-        EntryAnswer::Refused(k) => refused(k),
+        EntryAnswer::Refused(k) => refused(rt, k),
         EntryAnswer::Is(e) => {
             let n = e.name;
-            part(n);
-            number(e.graduated_scale);
-            number(e.values);
+            part(rt, n)?;
+            number(rt, e.graduated_scale)?;
+            number(rt, e.values)
         }
     }
 }
 
-fn value(s: &[u8], i: usize, j: usize) {
+fn value(rt: &impl Print, s: &[u8], i: usize, j: usize) -> io::Result<()> {
     match rrts::value(s, i, j) {
-        ValueAnswer::Refused(k) => refused(k),
+        ValueAnswer::Refused(k) => refused(rt, k),
         ValueAnswer::Is(t) => {
             let a = t.short_text;
-            part(a);
+            part(rt, a)?;
             let b = t.long_text;
-            part(b);
+            part(rt, b)
         }
     }
 }
 
-pub fn answer(v: Vector, s: &[u8]) {
+pub fn answer(rt: &impl Print, v: Vector, s: &[u8]) -> io::Result<()> {
     match v.op % 16 {
-        1 => fields(s),
-        2 => dimension(s, v.a),
-        3 => value(s, v.a, v.b),
-        _ => stored::answer(v, s),
+        1 => fields(rt, s),
+        2 => dimension(rt, s, v.a),
+        3 => value(rt, s, v.a, v.b),
+        _ => stored::answer(rt, v, s),
     }
 }

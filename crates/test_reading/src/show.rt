@@ -1,22 +1,23 @@
 // Words that the answers of several tables have in common.
 use part::Part;
 use rating::Rating;
+use std::io;
 use test_lines::{number, say, told};
 
-pub fn part(p: Part) {
-    number(p.start);
-    number(p.length);
+pub fn part(rt: &impl Print, p: Part) -> io::Result<()> {
+    number(rt, p.start)?;
+    number(rt, p.length)
 }
 
-pub fn short(n: u32) {
-    number(n as usize);
+pub fn short(rt: &impl Print, n: u32) -> io::Result<()> {
+    number(rt, n as usize)
 }
 
-pub fn rating(r: Rating) {
+pub fn rating(rt: &impl Print, r: Rating) -> io::Result<()> {
     match r {
-        Rating::NoAdvisory => say(b" no advisory"),
-        Rating::RegionAbsent => say(b" region absent"),
-        Rating::DimensionAbsent => say(b" dimension absent"),
-        Rating::Value(v) => told(b" value", v),
+        Rating::NoAdvisory => say(rt, b" no advisory"),
+        Rating::RegionAbsent => say(rt, b" region absent"),
+        Rating::DimensionAbsent => say(rt, b" dimension absent"),
+        Rating::Value(v) => told(rt, b" value", v),
     }
 }

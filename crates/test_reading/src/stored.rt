@@ -3,6 +3,7 @@ ghost use Rattle.std.specs.Prelude.{◌≡◌, length};
 
 use crate::show::short;
 use rows::{Row, RowsAnswer, rows, value_rows};
+use std::io;
 use test_lines::{Vector, refused, say, told};
 
 fn sevens() -> [u32; 4000]
@@ -11,13 +12,14 @@ fn sevens() -> [u32; 4000]
     [7u32; 4000]
 }
 
-fn numbers(out: &[u32]) {
-    say(b":");
+fn numbers(rt: &impl Print, out: &[u32]) -> io::Result<()> {
+    say(rt, b":")?;
     let mut i = 0;
     while i < out.len() {
-        short(out[i]);
+        short(rt, out[i])?;
         i += 1;
     }
+    Ok(())
 }
 
 fn stored(op: usize, s: &[u8], out: &mut [u32]) -> RowsAnswer {
@@ -30,19 +32,20 @@ fn stored(op: usize, s: &[u8], out: &mut [u32]) -> RowsAnswer {
     }
 }
 
-fn fill(op: usize, s: &[u8], out: &mut [u32]) {
+fn fill(rt: &impl Print, op: usize, s: &[u8], out: &mut [u32]) -> io::Result<()> {
     match stored(op, s, out) {
-        RowsAnswer::Refused(k) => refused(k),
-        RowsAnswer::Are(n) => told(b" rows", n),
+        RowsAnswer::Refused(k) => refused(rt, k)?,
+        RowsAnswer::Are(n) => told(rt, b" rows", n)?,
     }
-    numbers(out);
+    numbers(rt, out)
 }
 
 // The room that is lent is the vector's first number.
-pub fn answer(v: Vector, s: &[u8]) {
+pub fn answer(rt: &impl Print, v: Vector, s: &[u8]) -> io::Result<()> {
     let mut out = sevens();
     let room = v.a;
     if room <= 4000 {
-        fill(v.op, s, &mut out[..room]);
+        fill(rt, v.op, s, &mut out[..room])?;
     }
+    Ok(())
 }

@@ -4,6 +4,7 @@ use part::part_of;
 use shelf::{Change, Fetched, Progress};
 use shelf_bytes::named;
 use shelf_state::{Asked, Shelf};
+use std::io;
 use test_lines::digest::of_bytes;
 use test_lines::{Vector, number, refused, say, told};
 
@@ -11,110 +12,116 @@ fn key(b: &[u8]) -> Asked {
     named(word(b, 0), byte(b, 2), word(b, 3) as u16)
 }
 
-fn show_change(answer: Change) {
+fn show_change(rt: &impl Print, answer: Change) -> io::Result<()> {
     match answer {
-        Change::Refused(k) => refused(k),
-        Change::Done => say(b" done"),
+        Change::Refused(k) => refused(rt, k),
+        Change::Done => say(rt, b" done"),
     }
 }
 
-fn show_progress(answer: Progress) {
+fn show_progress(rt: &impl Print, answer: Progress) -> io::Result<()> {
     match answer {
-        Progress::Refused(k) => refused(k),
-        Progress::NothingHeard => say(b" nothing heard"),
+        Progress::Refused(k) => refused(rt, k),
+        Progress::NothingHeard => say(rt, b" nothing heard"),
         Progress::Part { held, of } => {
-            number(held);
-            told(b" of", of);
+            number(rt, held)?;
+            told(rt, b" of", of)
         }
-        Progress::Complete { of } => told(b" complete", of),
+        Progress::Complete { of } => told(rt, b" complete", of),
     }
 }
 
 // A section that was fetched is told by its place and a digest of its bytes.
-fn show_fetched(answer: Fetched, area: &[u8]) {
+fn show_fetched(rt: &impl Print, answer: Fetched, area: &[u8]) -> io::Result<()> {
     match answer {
-        Fetched::Refused(k) => refused(k),
+        Fetched::Refused(k) => refused(rt, k),
         Fetched::At(p) => {
-            number(p.start);
-            number(p.length);
-            number(of_bytes(part_of(area, p.start, p.length)));
+            number(rt, p.start)?;
+            number(rt, p.length)?;
+            number(rt, of_bytes(part_of(area, p.start, p.length)))
         }
     }
 }
 
 // A new shelf, or the one that there was where its sizes are refused.
-fn empties(s: Shelf, b: &[u8]) -> Shelf {
+fn empties(rt: &impl Print, s: Shelf, b: &[u8]) -> io::Result<Shelf> {
     let r = shelf::empty(byte(b, 0), byte(b, 1));
-    say(b" empty");
+    say(rt, b" empty")?;
     let made = r.shelf;
     let answer = r.answer;
-    show_change(answer);
+    show_change(rt, answer)?;
     match answer {
-        Change::Refused(_k) => s,
-        Change::Done => made,
+        Change::Refused(_k) => Ok(s),
+        Change::Done => Ok(made),
     }
 }
 
-fn opens(s: Shelf, area: &[u8], b: &[u8]) -> Shelf {
+fn opens(rt: &impl Print, s: Shelf, area: &[u8], b: &[u8]) -> io::Result<Shelf> {
     let r = shelf::open(s, area, key(b), byte(b, 5));
-    say(b" open");
+    say(rt, b" open")?;
     let answer = r.answer;
-    show_change(answer);
-    r.shelf
+    show_change(rt, answer)?;
+    Ok(r.shelf)
 }
 
-fn closes(s: Shelf, area: &[u8], b: &[u8]) -> Shelf {
+fn closes(rt: &impl Print, s: Shelf, area: &[u8], b: &[u8]) -> io::Result<Shelf> {
     let r = shelf::close(s, area, key(b));
-    say(b" close");
+    say(rt, b" close")?;
     let answer = r.answer;
-    show_change(answer);
-    r.shelf
+    show_change(rt, answer)?;
+    Ok(r.shelf)
 }
 
-fn tells(s: Shelf, area: &[u8], b: &[u8]) -> Shelf {
+fn tells(rt: &impl Print, s: Shelf, area: &[u8], b: &[u8]) -> io::Result<Shelf> {
     let r = shelf::status(s, area, key(b));
-    say(b" status");
+    say(rt, b" status")?;
     let answer = r.answer;
-    show_progress(answer);
-    r.shelf
+    show_progress(rt, answer)?;
+    Ok(r.shelf)
 }
 
-fn fetches(s: Shelf, area: &[u8], b: &[u8]) -> Shelf {
+fn fetches(rt: &impl Print, s: Shelf, area: &[u8], b: &[u8]) -> io::Result<Shelf> {
     let r = shelf::fetch(s, area, key(b), word(b, 5));
-    say(b" fetch");
+    say(rt, b" fetch")?;
     let answer = r.answer;
-    show_fetched(answer, area);
-    r.shelf
+    show_fetched(rt, answer, area)?;
+    Ok(r.shelf)
 }
 
-fn delivers(s: Shelf, area: &mut [u8], b: &[u8]) -> Shelf {
+fn delivers(rt: &impl Print, s: Shelf, area: &mut [u8], b: &[u8]) -> io::Result<Shelf> {
     let r = shelf::deliver(s, area, word(b, 0), part_of(b, 2, b.len()));
-    say(b" deliver");
+    say(rt, b" deliver")?;
     let answer = r.answer;
-    show_change(answer);
-    r.shelf
+    show_change(rt, answer)?;
+    Ok(r.shelf)
 }
 
 pub fn letter(op: usize) -> u8 {
     (op % 256) as u8
 }
 
-fn act(op: usize, s: Shelf, area: &mut [u8], b: &[u8]) -> Shelf {
+fn act(rt: &impl Print, op: usize, s: Shelf, area: &mut [u8], b: &[u8]) -> io::Result<Shelf> {
     match letter(op) {
-        b'c' => closes(s, area, b),
-        b'd' => delivers(s, area, b),
-        b'f' => fetches(s, area, b),
-        b'o' => opens(s, area, b),
-        b's' => tells(s, area, b),
-        _ => empties(s, b),
+        b'c' => closes(rt, s, area, b),
+        b'd' => delivers(rt, s, area, b),
+        b'f' => fetches(rt, s, area, b),
+        b'o' => opens(rt, s, area, b),
+        b's' => tells(rt, s, area, b),
+        _ => empties(rt, s, b),
     }
 }
 
 // The call on the first bytes of the area, as many as the vector's first number.
-pub fn answer(v: Vector, s: Shelf, area: &mut [u8], b: &[u8]) -> Shelf {
+pub fn answer(
+    rt: &impl Print,
+    v: Vector,
+    s: Shelf,
+    area: &mut [u8],
+    b: &[u8],
+) -> io::Result<Shelf> {
     let size = v.a;
     if size <= area.len() {
-        return act(v.op, s, &mut area[..size], b);
+        return act(rt, v.op, s, &mut area[..size], b);
     }
-    s
+    Ok(s)
 }

@@ -8,8 +8,9 @@ mod rules;
 use part::part_of;
 use shelf_digest::of_records;
 use shelf_state::Shelf;
+use std::io;
 use test_lines::digest::of_bytes;
-use test_lines::{Vector, number};
+use test_lines::{ROOM, Vector, number};
 
 // The shelf after a vector, and whether there was one.
 #[derive(Clone, Copy)]
@@ -18,56 +19,56 @@ struct Next {
     shelf: Shelf,
 }
 
-fn call(v: Vector, s: Shelf, area: &mut [u8], b: &[u8]) -> Shelf {
-    let t = calls::answer(v, s, area, b);
-    number(of_records(t));
-    number(of_bytes(area));
-    t
+fn call(rt: &impl Print, v: Vector, s: Shelf, area: &mut [u8], b: &[u8]) -> io::Result<Shelf> {
+    let t = calls::answer(rt, v, s, area, b)?;
+    number(rt, of_records(t))?;
+    number(rt, of_bytes(area))?;
+    Ok(t)
 }
 
-fn answer(v: Vector, s: Shelf, area: &mut [u8], b: &[u8]) -> Shelf {
+fn answer(rt: &impl Print, v: Vector, s: Shelf, area: &mut [u8], b: &[u8]) -> io::Result<Shelf> {
     if calls::letter(v.op) == b'r' {
-        rules::answer(b);
-        return s;
+        rules::answer(rt, b)?;
+        return Ok(s);
     }
-    call(v, s, area, b)
+    call(rt, v, s, area, b)
 }
 
-fn step(n: u64, s: Shelf, area: &mut [u8]) -> Next {
-    let mut b = io::large_buffer();
-    let v = test_lines::next(n, &mut b);
+fn step(rt: &(impl Input + Print), n: u64, s: Shelf, area: &mut [u8]) -> io::Result<Next> {
+    let mut b = [0u8; ROOM];
+    let v = test_lines::next(rt, n, &mut b)?;
     if !v.more {
-        return Next {
+        return Ok(Next {
             more: false,
             shelf: s,
-        };
+        });
     }
-    let t = answer(v, s, area, part_of(&b, 0, v.size));
-    test_lines::say(b"\n");
-    Next {
+    let t = answer(rt, v, s, area, part_of(&b, 0, v.size))?;
+    test_lines::say(rt, b"\n")?;
+    Ok(Next {
         more: true,
         shelf: t,
-    }
+    })
 }
 
 // How many vectors there were.
-fn run(area: &mut [u8]) -> u64 {
+fn run(rt: &(impl Input + Print), area: &mut [u8]) -> io::Result<u64> {
     let first = shelf::empty(1, 1);
     let mut s = first.shelf;
     let mut n: u64 = 0;
     while n < u64::MAX {
-        let next = step(n, s, area);
+        let next = step(rt, n, s, area)?;
         if !next.more {
-            return n;
+            return Ok(n);
         }
         s = next.shelf;
         n += 1;
     }
-    n
+    Ok(n)
 }
 
-fn main() {
+fn main(rt: HostRuntime) -> io::Result<()> {
     let mut area = [0u8; 262144];
-    let n = run(&mut area);
-    test_lines::end(n);
+    let n = run(&rt, &mut area)?;
+    test_lines::end(&rt, n)
 }

@@ -4,7 +4,8 @@ use shelf::{Change, Fetched, Progress};
 use shelf_bytes::named;
 use shelf_state::inner::wide;
 use shelf_state::{Asked, Edition, Key, Place, Shelf, Watch};
-use test_lines::{say, told};
+use std::io;
+use test_lines::{ROOM, say, told};
 
 fn same_key(a: Key, b: Key) -> bool {
     a.pid == b.pid && a.table_id == b.table_id && a.extension == b.extension
@@ -75,70 +76,70 @@ fn refusal_of(answer: Change) -> usize {
     }
 }
 
-fn opens(s: Shelf, area: &[u8]) -> bool {
+fn opens(rt: &impl Print, s: Shelf, area: &[u8]) -> io::Result<bool> {
     let a = named(0x1D01, 0xCB, 9);
     let r = shelf::open(s, area, a, 1);
     let answer = r.answer;
-    told(b" open", refusal_of(answer));
-    same_shelf(s, r.shelf)
+    told(rt, b" open", refusal_of(answer))?;
+    Ok(same_shelf(s, r.shelf))
 }
 
-fn closes(s: Shelf, area: &[u8], a: Asked) -> bool {
+fn closes(rt: &impl Print, s: Shelf, area: &[u8], a: Asked) -> io::Result<bool> {
     let r = shelf::close(s, area, a);
     let answer = r.answer;
-    told(b" close", refusal_of(answer));
-    same_shelf(s, r.shelf)
+    told(rt, b" close", refusal_of(answer))?;
+    Ok(same_shelf(s, r.shelf))
 }
 
-fn tells(s: Shelf, area: &[u8], a: Asked) -> bool {
+fn tells(rt: &impl Print, s: Shelf, area: &[u8], a: Asked) -> io::Result<bool> {
     let r = shelf::status(s, area, a);
     let answer = r.answer;
     match answer {
-        Progress::Refused(k) => told(b" status", wide(k.number())),
-        _ => told(b" status", 0),
+        Progress::Refused(k) => told(rt, b" status", wide(k.number()))?,
+        _ => told(rt, b" status", 0)?,
     }
-    same_shelf(s, r.shelf)
+    Ok(same_shelf(s, r.shelf))
 }
 
-fn fetches(s: Shelf, area: &[u8], a: Asked) -> bool {
+fn fetches(rt: &impl Print, s: Shelf, area: &[u8], a: Asked) -> io::Result<bool> {
     let r = shelf::fetch(s, area, a, 0);
     let answer = r.answer;
     match answer {
-        Fetched::Refused(k) => told(b" fetch", wide(k.number())),
-        _ => told(b" fetch", 0),
+        Fetched::Refused(k) => told(rt, b" fetch", wide(k.number()))?,
+        _ => told(rt, b" fetch", 0)?,
     }
-    same_shelf(s, r.shelf)
+    Ok(same_shelf(s, r.shelf))
 }
 
 // A section of two bytes: refused 1 on a sound shelf.
-fn delivers(s: Shelf, area: &mut [u8]) -> bool {
+fn delivers(rt: &impl Print, s: Shelf, area: &mut [u8]) -> io::Result<bool> {
     let r = shelf::deliver(s, area, 0x1D00, b"ab");
     let answer = r.answer;
-    told(b" deliver", refusal_of(answer));
-    same_shelf(s, r.shelf)
+    told(rt, b" deliver", refusal_of(answer))?;
+    Ok(same_shelf(s, r.shelf))
 }
 
-fn asks(s: Shelf, area: &[u8]) -> bool {
+fn asks(rt: &impl Print, s: Shelf, area: &[u8]) -> io::Result<bool> {
     let a = named(0x1D00, 0xCB, 7);
-    let status = tells(s, area, a);
-    let fetch = fetches(s, area, a);
-    let close = closes(s, area, a);
-    status && fetch && close
+    let status = tells(rt, s, area, a)?;
+    let fetch = fetches(rt, s, area, a)?;
+    let close = closes(rt, s, area, a)?;
+    Ok(status && fetch && close)
 }
 
-fn run(s: Shelf, area: &mut [u8]) {
-    let delivered = delivers(s, area);
-    let opened = opens(s, area);
-    let asked = asks(s, area);
+fn run(rt: &impl Print, s: Shelf, area: &mut [u8]) -> io::Result<()> {
+    let delivered = delivers(rt, s, area)?;
+    let opened = opens(rt, s, area)?;
+    let asked = asks(rt, s, area)?;
     if delivered && opened && asked && is_clear(area) {
-        say(b" same");
+        say(rt, b" same")
     } else {
-        say(b" changed");
+        say(rt, b" changed")
     }
 }
 
-pub fn answer(b: &[u8]) {
+pub fn answer(rt: &impl Print, b: &[u8]) -> io::Result<()> {
     let size = bytes_at::word(b, 2);
-    let mut area = io::large_buffer();
-    run(shelf_bytes::read(b), &mut area[..size]);
+    let mut area = [0u8; ROOM];
+    run(rt, shelf_bytes::read(b), &mut area[..size])
 }

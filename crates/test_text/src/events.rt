@@ -1,5 +1,6 @@
 // All events of a section with their titles, in two lent lists of which a and b are the lengths. All numbers of the one are 7 before
 // and all of the other 65535, behind what is lent too, so that the digests of the whole lists show what changed there.
+use std::io;
 use test_lines::digest::{none, number, told};
 use test_lines::{Vector, refused};
 use titles::{TitlesAnswer, titles};
@@ -32,30 +33,37 @@ fn of_units(l: &[u16]) -> usize {
     told(d)
 }
 
-fn show(a: TitlesAnswer) {
+fn show(rt: &impl Print, a: TitlesAnswer) -> io::Result<()> {
     match a {
-        TitlesAnswer::Refused(k) => refused(k),
+        TitlesAnswer::Refused(k) => refused(rt, k),
         TitlesAnswer::Are { events, units } => {
-            test_lines::told(b" events", events);
-            test_lines::told(b" units", units);
+            test_lines::told(rt, b" events", events)?;
+            test_lines::told(rt, b" units", units)
         }
     }
 }
 
-fn lent(v: Vector, s: &[u8], rows: &mut [u32], units: &mut [u16]) {
+fn lent(
+    rt: &impl Print,
+    v: Vector,
+    s: &[u8],
+    rows: &mut [u32],
+    units: &mut [u16],
+) -> io::Result<()> {
     let a = v.a;
     let b = v.b;
     if a <= rows.len() {
         if b <= units.len() {
-            show(titles(s, &mut rows[..a], &mut units[..b]));
+            show(rt, titles(s, &mut rows[..a], &mut units[..b]))?;
         }
     }
+    Ok(())
 }
 
-pub fn answer(v: Vector, s: &[u8]) {
+pub fn answer(rt: &impl Print, v: Vector, s: &[u8]) -> io::Result<()> {
     let mut rows = [7u32; 3084];
     let mut units = [65535u16; 32800];
-    lent(v, s, &mut rows, &mut units);
-    test_lines::told(b" rows", of_rows(&rows));
-    test_lines::told(b" text", of_units(&units));
+    lent(rt, v, s, &mut rows, &mut units)?;
+    test_lines::told(rt, b" rows", of_rows(&rows))?;
+    test_lines::told(rt, b" text", of_units(&units))
 }

@@ -11,33 +11,34 @@ mod segments;
 mod words;
 
 use part::part_of;
-use test_lines::Vector;
+use std::io;
+use test_lines::{ROOM, Vector};
 
-fn answer(v: Vector, s: &[u8]) {
+fn answer(rt: &impl Print, v: Vector, s: &[u8]) -> io::Result<()> {
     let op = v.op;
     match op {
-        1 => segments::titled(s),
-        2 => segments::described(s),
-        3 => fields::answer(v, s),
-        23 => events::answer(v, s),
-        _ => sections::answer(v, s),
+        1 => segments::titled(rt, s),
+        2 => segments::described(rt, s),
+        3 => fields::answer(rt, v, s),
+        23 => events::answer(rt, v, s),
+        _ => sections::answer(rt, v, s),
     }
 }
 
-fn step(n: u64, s: &mut [u8]) -> bool {
-    let v = test_lines::next(n, s);
+fn step(rt: &(impl Input + Print), n: u64, s: &mut [u8]) -> io::Result<bool> {
+    let v = test_lines::next(rt, n, s)?;
     if v.more {
-        answer(v, part_of(s, 0, v.size));
-        test_lines::say(b"\n");
+        answer(rt, v, part_of(s, 0, v.size))?;
+        test_lines::say(rt, b"\n")?;
     }
-    v.more
+    Ok(v.more)
 }
 
-fn main() {
-    let mut s = io::large_buffer();
+fn main(rt: HostRuntime) -> io::Result<()> {
+    let mut s = [0u8; ROOM];
     let mut n: u64 = 0;
-    while n < u64::MAX && step(n, &mut s) {
+    while n < u64::MAX && step(&rt, n, &mut s)? {
         n += 1;
     }
-    test_lines::end(n);
+    test_lines::end(&rt, n)
 }

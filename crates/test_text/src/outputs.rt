@@ -4,6 +4,7 @@ ghost use Rattle.std.specs.Prelude.{◌≤◌};
 use crate::words;
 use part::part_of;
 use section_text::Which;
+use std::io;
 use test_lines::{Vector, told};
 use text::Units;
 
@@ -46,21 +47,22 @@ fn changed(out: &[u16], n: usize) -> usize {
 }
 
 // The number of units, how many others of the output changed, and the units.
-fn show(out: &[u16], a: Units) {
-    let n = words::amount(b" text", a);
-    told(b" changed", changed(out, n));
-    words::units(out, 0, n);
+fn show(rt: &impl Print, out: &[u16], a: Units) -> io::Result<()> {
+    let n = words::amount(rt, b" text", a)?;
+    told(rt, b" changed", changed(out, n))?;
+    words::units(rt, out, 0, n)
 }
 
-fn lent(v: Vector, source: Source, s: &[u8], out: &mut [u16]) {
+fn lent(rt: &impl Print, v: Vector, source: Source, s: &[u8], out: &mut [u16]) -> io::Result<()> {
     let room = v.d;
     if room <= out.len() {
         let a = text(v, source, s, &mut out[..room]);
-        show(out, a);
+        show(rt, out, a)?;
     }
+    Ok(())
 }
 
-pub fn answer(v: Vector, source: Source, s: &[u8]) {
+pub fn answer(rt: &impl Print, v: Vector, source: Source, s: &[u8]) -> io::Result<()> {
     let mut out = [65535u16; 4096];
-    lent(v, source, s, &mut out);
+    lent(rt, v, source, s, &mut out)
 }

@@ -2,6 +2,7 @@
 use crate::outputs::Source;
 use crate::{outputs, words};
 use section_text::Which;
+use std::io;
 use test_lines::Vector;
 
 fn which(v: Vector) -> Which {
@@ -17,10 +18,10 @@ fn which(v: Vector) -> Which {
     }
 }
 
-pub fn answer(v: Vector, s: &[u8]) {
+pub fn answer(rt: &impl Print, v: Vector, s: &[u8]) -> io::Result<()> {
     let w = which(v);
-    words::count(b" strings", section_text::count_strings(s, w));
-    words::heading(section_text::string_heading(s, w, v.c));
-    words::amount(b" units", section_text::string_units(s, w, v.c));
-    outputs::answer(v, Source::Within(w), s);
+    words::count(rt, b" strings", section_text::count_strings(s, w))?;
+    words::heading(rt, section_text::string_heading(s, w, v.c))?;
+    words::amount(rt, b" units", section_text::string_units(s, w, v.c))?;
+    outputs::answer(rt, v, Source::Within(w), s)
 }

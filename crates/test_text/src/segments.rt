@@ -4,18 +4,19 @@ ghost use Rattle.std.specs.Prelude.{◌≤◌, length};
 
 use crate::words::units;
 use segment::Judged;
+use std::io;
 use test_lines::{say, told};
 
 // The number of units, and 0 for a refusal.
-fn tell(j: Judged) -> usize {
+fn tell(rt: &impl Print, j: Judged) -> io::Result<usize> {
     match j {
         Judged::Units(k) => {
-            told(b" units", k);
-            k
+            told(rt, b" units", k)?;
+            Ok(k)
         }
         Judged::Refused(r) => {
-            told(b" refused", r as usize);
-            0
+            told(rt, b" refused", r as usize)?;
+            Ok(0)
         }
     }
 }
@@ -25,27 +26,27 @@ fn with_edges(k: usize) -> usize {
     if k < 4096 { k + 2 } else { k }
 }
 
-fn decode(titles: bool, s: &[u8])
+fn decode(rt: &impl Print, titles: bool, s: &[u8]) -> io::Result<()>
     requires { length s.now ≤ 255 }
 {
     let mut out = [65535u16; 2048];
-    tell(segment::judge(titles, s));
-    let k = tell(segment::write(titles, s, &mut out, 3));
-    units(&out, 2, with_edges(k));
+    tell(rt, segment::judge(titles, s))?;
+    let k = tell(rt, segment::write(titles, s, &mut out, 3))?;
+    units(rt, &out, 2, with_edges(k))
 }
 
-fn short(titles: bool, s: &[u8]) {
+fn short(rt: &impl Print, titles: bool, s: &[u8]) -> io::Result<()> {
     if s.len() <= 255 {
-        decode(titles, s);
+        decode(rt, titles, s)
     } else {
-        say(b" no segment");
+        say(rt, b" no segment")
     }
 }
 
-pub fn titled(s: &[u8]) {
-    short(true, s);
+pub fn titled(rt: &impl Print, s: &[u8]) -> io::Result<()> {
+    short(rt, true, s)
 }
 
-pub fn described(s: &[u8]) {
-    short(false, s);
+pub fn described(rt: &impl Print, s: &[u8]) -> io::Result<()> {
+    short(rt, false, s)
 }

@@ -7,6 +7,7 @@ use reading::etts::TableAnswer;
 use rows::{Row, RowsAnswer, rows};
 use section::write::Given;
 use section::{Head, Header, judge_any};
+use std::io;
 use test_lines::{refused, say};
 use writing::answer::Written;
 
@@ -21,53 +22,62 @@ fn given_of(h: Header) -> Given {
 }
 
 // The rows stand at the list's start, and their places are in the section's own bytes.
-fn from_rows(h: Header, s: &[u8], count: usize, list: &[u32], out: &mut [u8]) {
+fn from_rows(
+    rt: &impl Print,
+    h: Header,
+    s: &[u8],
+    count: usize,
+    list: &[u32],
+    out: &mut [u8],
+) -> io::Result<()> {
     if count <= list.len() / 8 {
         let n = 8 * count;
         let w = writing::eits::write(given_of(h), count, &list[..n], s, out);
-        digest(w, out);
+        digest(rt, w, out)?;
     }
+    Ok(())
 }
 
-fn eit(h: Header, s: &[u8], out: &mut [u8]) {
+fn eit(rt: &impl Print, h: Header, s: &[u8], out: &mut [u8]) -> io::Result<()> {
     let mut list = numbers();
     match rows(s, Row::Event, &mut list) {
-        RowsAnswer::Refused(k) => refused(k),
-        RowsAnswer::Are(count) => from_rows(h, s, count, &list, out),
+        RowsAnswer::Refused(k) => refused(rt, k),
+        RowsAnswer::Are(count) => from_rows(rt, h, s, count, &list, out),
     }
 }
 
-fn ett(h: Header, s: &[u8], out: &mut [u8]) {
+fn ett(rt: &impl Print, h: Header, s: &[u8], out: &mut [u8]) -> io::Result<()> {
     match reading::etts::fields(s) {
-        TableAnswer::Refused(k) => refused(k),
+        TableAnswer::Refused(k) => refused(rt, k),
         TableAnswer::Are(t) => {
             let p = t.text;
             let text = part_of(s, p.start, p.length);
             let w = writing::etts::write(given_of(h), t.etm_id, text, out);
-            digest(w, out);
+            digest(rt, w, out)
         }
     }
 }
 
-fn rewritten(h: Header, s: &[u8]) {
+fn rewritten(rt: &impl Print, h: Header, s: &[u8]) -> io::Result<()> {
     let mut out = filled();
     let kind = h.kind;
     match kind {
-        Kind::Eit => eit(h, s, &mut out),
-        _ => ett(h, s, &mut out),
+        Kind::Eit => eit(rt, h, s, &mut out),
+        _ => ett(rt, h, s, &mut out),
     }
 }
 
-fn judged(s: &[u8]) {
+fn judged(rt: &impl Print, s: &[u8]) -> io::Result<()> {
     match judge_any(s) {
-        Head::Refused(k) => refused(k),
-        Head::Passes(h) => rewritten(h, s),
+        Head::Refused(k) => refused(rt, k),
+        Head::Passes(h) => rewritten(rt, h, s),
     }
 }
 
-pub fn answer(w: Written, out: &[u8]) {
+pub fn answer(rt: &impl Print, w: Written, out: &[u8]) -> io::Result<()> {
     if let Written::Length(n) = w {
-        say(b" again");
-        judged(part_of(out, 0, n));
+        say(rt, b" again")?;
+        judged(rt, part_of(out, 0, n))?;
     }
+    Ok(())
 }

@@ -11,7 +11,8 @@ use bytes_at::long;
 use part::part_of;
 use row::narrow;
 use section::write::Given;
-use test_lines::{Vector, say};
+use std::io;
+use test_lines::{ROOM, Vector, say};
 
 // The five numbers of a header stand before all else.
 const HEAD: usize = 20;
@@ -49,7 +50,7 @@ fn gather(s: &[u8], n: usize, rows: &mut [u32])
     }
 }
 
-fn eit(v: Vector, s: &[u8], rows: &mut [u32], out: &mut [u8])
+fn eit(rt: &impl Print, v: Vector, s: &[u8], rows: &mut [u32], out: &mut [u8]) -> io::Result<()>
     requires { length rows.old ≤ 2048 }
 {
     let n = rows.len();
@@ -57,59 +58,61 @@ fn eit(v: Vector, s: &[u8], rows: &mut [u32], out: &mut [u8])
     let data = part_of(s, HEAD + 4 * n, 65535);
     let w = writing::eits::write(given(s), v.a, rows, data, out);
     if v.op == 3 {
-        show::bytes(w, out);
+        show::bytes(rt, w, out)?;
     } else {
-        show::digest(w, out);
+        show::digest(rt, w, out)?;
     }
-    again::answer(w, out);
+    again::answer(rt, w, out)
 }
 
 // The rows have as many numbers as the vector's second one says.
-fn eit_with_rows(v: Vector, s: &[u8], out: &mut [u8]) {
+fn eit_with_rows(rt: &impl Print, v: Vector, s: &[u8], out: &mut [u8]) -> io::Result<()> {
     let mut rows = numbers();
     let n = v.b;
     if n <= 2048 {
-        eit(v, s, &mut rows[..n], out);
+        eit(rt, v, s, &mut rows[..n], out)?;
     }
+    Ok(())
 }
 
-fn ett(v: Vector, s: &[u8], out: &mut [u8]) {
+fn ett(rt: &impl Print, v: Vector, s: &[u8], out: &mut [u8]) -> io::Result<()> {
     let w = writing::etts::write(given(s), v.a, part_of(s, HEAD, 65535), out);
-    show::digest(w, out);
-    again::answer(w, out);
+    show::digest(rt, w, out)?;
+    again::answer(rt, w, out)
 }
 
-fn section(v: Vector, s: &[u8], out: &mut [u8]) {
+fn section(rt: &impl Print, v: Vector, s: &[u8], out: &mut [u8]) -> io::Result<()> {
     if v.op == 2 {
-        ett(v, s, out);
+        ett(rt, v, s, out)
     } else {
-        eit_with_rows(v, s, out);
+        eit_with_rows(rt, v, s, out)
     }
 }
 
 // The room that is lent is the vector's third number.
-fn answer(v: Vector, s: &[u8]) {
+fn answer(rt: &impl Print, v: Vector, s: &[u8]) -> io::Result<()> {
     let mut out = filled();
     let room = v.c;
     if room <= 4200 {
-        section(v, s, &mut out[..room]);
+        section(rt, v, s, &mut out[..room])?;
     }
+    Ok(())
 }
 
-fn step(n: u64, s: &mut [u8]) -> bool {
-    let v = test_lines::next(n, s);
+fn step(rt: &(impl Input + Print), n: u64, s: &mut [u8]) -> io::Result<bool> {
+    let v = test_lines::next(rt, n, s)?;
     if v.more {
-        answer(v, part_of(s, 0, v.size));
-        say(b"\n");
+        answer(rt, v, part_of(s, 0, v.size))?;
+        say(rt, b"\n")?;
     }
-    v.more
+    Ok(v.more)
 }
 
-fn main() {
-    let mut s = io::large_buffer();
+fn main(rt: HostRuntime) -> io::Result<()> {
+    let mut s = [0u8; ROOM];
     let mut n: u64 = 0;
-    while n < u64::MAX && step(n, &mut s) {
+    while n < u64::MAX && step(&rt, n, &mut s)? {
         n += 1;
     }
-    test_lines::end(n);
+    test_lines::end(&rt, n)
 }
