@@ -1,27 +1,39 @@
 #!/bin/sh
-# Proves a library and makes target/lib/ARCH/libNAME.a of it, for x86_64 and for aarch64, with its code as assembly, NAME.s, and the frames of its functions,
-# NAME.su: tools/staticlib.sh NAME [ARCH] fails where that for ARCH, this machine's where none is named, was not made. What is newer than every source is
-# left as it is, since the kit would prove it again. Run it from the repository's root. The build says much; it is shown only where it fails.
+# Makes target/lib/ARCH/libNAME.a of a static library of crates.txt, with its code as assembly, NAME.s, and the frames of its functions, NAME.su:
+# tools/staticlib.sh NAME [ARCH], ARCH is x86_64 or aarch64, this machine's where none is named. It is proved, and so are the libraries below it where they
+# changed; where tests/gate.sh says so by PROVED_BY_CI=yes, those stand as `rt ci` has just proved them. What is newer than every source is left as it is. Run
+# it from the repository's root. The build says much; it is shown only where it fails.
 set -e
-lib=target/lib
-wanted=$lib/${2:-$(uname -m)}
-if [ -e "$wanted/lib$1.a" ] && [ -e "$wanted/$1.su" ] &&
-    [ -z "$(find crates crates.txt tools/staticlib.sh tools/kit_for_both.sh -type f -newer "$wanted/lib$1.a" -print -quit)" ]; then
+name=$1
+arch=${2:-$(uname -m)}
+made=target/lib/$arch
+if [ -e "$made/lib$name.a" ] && [ -e "$made/$name.su" ] &&
+    [ -z "$(find crates crates.txt tools/staticlib.sh tools/toolchain.sh -name out -prune -o -type f -newer "$made/lib$name.a" -print -quit)" ]; then
     exit 0
 fi
-kit=$(sh tools/kit_for_both.sh)
-mkdir -p $lib/x86_64 $lib/aarch64
-rm -f $lib/*/lib"$1".a $lib/*/"$1".* "$kit"/x86_64.* "$kit"/aarch64.*
-RATTLE_HOME=$kit rt staticlib "$1" >"$lib/$1.log" 2>&1 || { cat "$lib/$1.log"; exit 1; }
-mv "target/staticlib/lib$1.a" $lib/x86_64/
-for arch in x86_64 aarch64; do
-    for kind in o s su; do
-        [ ! -e "$kit/$arch.$kind" ] || mv "$kit/$arch.$kind" "$lib/$arch/$1.$kind"
-    done
+root=$(pwd)
+kit=$(sh tools/kit.sh)
+mkdir -p "$made"
+rm -f "$made/lib$name.a" "$made/$name".*
+toolchain=$(mktemp -d)
+trap 'rm -rf "$toolchain"' EXIT
+sh tools/toolchain.sh "$toolchain" "$made/$name"
+said=$root/target/lib/$name.log
+cd "crates/$name"
+
+# the kit's own build of it, which proves and builds what is below, has no assembly and no frames, and is not the one that is taken
+[ "${PROVED_BY_CI:-}" = yes ] || rt lib >"$said" 2>&1 || { cat "$said"; exit 1; }
+
+# a library below is the repository's, where it has a folder here, or else the kit's
+set -- --extern std="$kit/rlibs/std.rlib" -L dependency="$kit/rlibs"
+for below in $(sed -n "s/^$name staticlib *://p" "$root/crates.txt"); do
+    rlib=$root/crates/$below/out/rlib/$below.rlib
+    [ -e "../$below" ] || rlib=$kit/rlibs/$below.rlib
+    set -- "$@" --extern "$below=$rlib"
 done
-[ ! -e "$lib/aarch64/$1.o" ] || "$(sh tools/kit.sh)/bin/llvm-ar" rcs "$lib/aarch64/lib$1.a" "$lib/aarch64/$1.o"
-if [ ! -e "$wanted/lib$1.a" ] || [ ! -e "$wanted/$1.su" ]; then
-    echo "the compiler of the kit on this machine writes no such code:"
-    cat "$kit/${wanted##*/}.log"
-    exit 1
-fi
+for folder in "$root"/crates/*/out/rlib; do
+    set -- "$@" -L dependency="$folder"
+done
+"$kit/bin/rattle" build --crate-name "$name" src/lib.rt --crate-type staticlib --target "$arch-unknown-linux-gnu" "$@" --links "$name=" \
+    --antt-project "$kit/rattle/logic/antt-project.json" --logic-built "$kit/logic_built" --incremental "$root/target/lib/$name.kept" --jobs 2 \
+    --toolchain "$toolchain" --backend llvm -o "$root/$made/lib$name.a" >"$said" 2>&1 || { cat "$said"; exit 1; }

@@ -8,8 +8,7 @@ use rows::{Row, rows, value_rows};
 use telling::all::tell_count;
 
 // Of the defined tables of an MGT.
-#[unsafe(no_mangle)]
-pub extern "C" fn guide_mgt_tables(s: &[u8], out: &mut [u32], count: &mut [u32; 1]) -> u32
+pub fn guide_mgt_tables(s: &[u8], out: &mut [u32], count: &mut [u32; 1]) -> u32
     ensures told { Told one_number (rows_of Row.Table s.now (length out.old)) count.old result count.new }
     ensures put { out.new ≡ with_rows Row.Table s.now (rows_of Row.Table s.now (length out.old)) out.old }
 {
@@ -17,8 +16,7 @@ pub extern "C" fn guide_mgt_tables(s: &[u8], out: &mut [u32], count: &mut [u32; 
 }
 
 // Of the channels of a TVCT.
-#[unsafe(no_mangle)]
-pub extern "C" fn guide_tvct_channels(s: &[u8], out: &mut [u32], count: &mut [u32; 1]) -> u32
+pub fn guide_tvct_channels(s: &[u8], out: &mut [u32], count: &mut [u32; 1]) -> u32
     ensures told { Told one_number (rows_of Row.Channel s.now (length out.old)) count.old result count.new }
     ensures put { out.new ≡ with_rows Row.Channel s.now (rows_of Row.Channel s.now (length out.old)) out.old }
 {
@@ -26,8 +24,7 @@ pub extern "C" fn guide_tvct_channels(s: &[u8], out: &mut [u32], count: &mut [u3
 }
 
 // Of the dimensions of an RRT.
-#[unsafe(no_mangle)]
-pub extern "C" fn guide_rrt_dimensions(s: &[u8], out: &mut [u32], count: &mut [u32; 1]) -> u32
+pub fn guide_rrt_dimensions(s: &[u8], out: &mut [u32], count: &mut [u32; 1]) -> u32
     ensures told { Told one_number (rows_of Row.Dimension s.now (length out.old)) count.old result count.new }
     ensures put { out.new ≡ with_rows Row.Dimension s.now (rows_of Row.Dimension s.now (length out.old)) out.old }
 {
@@ -35,8 +32,7 @@ pub extern "C" fn guide_rrt_dimensions(s: &[u8], out: &mut [u32], count: &mut [u
 }
 
 // Of the events of an EIT.
-#[unsafe(no_mangle)]
-pub extern "C" fn guide_eit_events(s: &[u8], out: &mut [u32], count: &mut [u32; 1]) -> u32
+pub fn guide_eit_events(s: &[u8], out: &mut [u32], count: &mut [u32; 1]) -> u32
     ensures told { Told one_number (rows_of Row.Event s.now (length out.old)) count.old result count.new }
     ensures put { out.new ≡ with_rows Row.Event s.now (rows_of Row.Event s.now (length out.old)) out.old }
 {
@@ -44,8 +40,7 @@ pub extern "C" fn guide_eit_events(s: &[u8], out: &mut [u32], count: &mut [u32; 
 }
 
 // Of all values of the dimensions of an RRT.
-#[unsafe(no_mangle)]
-pub extern "C" fn guide_rrt_values(s: &[u8], out: &mut [u32], count: &mut [u32; 1]) -> u32
+pub fn guide_rrt_values(s: &[u8], out: &mut [u32], count: &mut [u32; 1]) -> u32
     ensures told { Told one_number (value_rows_of s.now (length out.old)) count.old result count.new }
     ensures put { out.new ≡ with_value_rows s.now (value_rows_of s.now (length out.old)) out.old }
 {

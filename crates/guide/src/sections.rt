@@ -10,16 +10,14 @@ use section::judge_any;
 use telling::sections::{tell_fault, tell_header};
 
 // The header of a section of any of the kinds.
-#[unsafe(no_mangle)]
-pub extern "C" fn guide_judge(s: &[u8], header: &mut [u32; 6]) -> u32
+pub fn guide_judge(s: &[u8], header: &mut [u32; 6]) -> u32
     ensures { Told header_numbers (section_by kind_of s.now) header.old result header.new }
 {
     tell_header(judge_any(s), header)
 }
 
 // Where its body fails.
-#[unsafe(no_mangle)]
-pub extern "C" fn guide_fault(s: &[u8], offset: &mut [u32; 1]) -> u32
+pub fn guide_fault(s: &[u8], offset: &mut [u32; 1]) -> u32
     ensures { Told one_number (fault_of (verdict_by kind_of s.now)) offset.old result offset.new }
 {
     tell_fault(inspect_any(s), offset)

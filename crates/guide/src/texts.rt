@@ -12,8 +12,7 @@ use telling::texts::{Sought, which_of};
 use telling::told::{number_of, wide};
 
 // The number of strings.
-#[unsafe(no_mangle)]
-pub extern "C" fn guide_strings(s: &[u8], which: &[u32; 4], count: &mut [u32; 1]) -> u32
+pub fn guide_strings(s: &[u8], which: &[u32; 4], count: &mut [u32; 1]) -> u32
     ensures { Told one_number (asked_count s.now which.now) count.old result count.new }
 {
     match which_of(which) {
@@ -23,8 +22,7 @@ pub extern "C" fn guide_strings(s: &[u8], which: &[u32; 4], count: &mut [u32; 1]
 }
 
 // The language and the number of segments of a string.
-#[unsafe(no_mangle)]
-pub extern "C" fn guide_heading(s: &[u8], which: &[u32; 4], told: &mut [u32; 2]) -> u32
+pub fn guide_heading(s: &[u8], which: &[u32; 4], told: &mut [u32; 2]) -> u32
     ensures { Told heading_numbers (asked_heading s.now which.now) told.old result told.new }
 {
     match which_of(which) {
@@ -34,8 +32,7 @@ pub extern "C" fn guide_heading(s: &[u8], which: &[u32; 4], told: &mut [u32; 2])
 }
 
 // How many units a string has.
-#[unsafe(no_mangle)]
-pub extern "C" fn guide_units(s: &[u8], which: &[u32; 4], told: &mut [u32; 2]) -> u32
+pub fn guide_units(s: &[u8], which: &[u32; 4], told: &mut [u32; 2]) -> u32
     ensures { Told amount_numbers (asked_amount s.now which.now) told.old result told.new }
 {
     match which_of(which) {
@@ -45,13 +42,7 @@ pub extern "C" fn guide_units(s: &[u8], which: &[u32; 4], told: &mut [u32; 2]) -
 }
 
 // The units themselves, where there is room for them.
-#[unsafe(no_mangle)]
-pub extern "C" fn guide_text(
-    s: &[u8],
-    which: &[u32; 4],
-    units: &mut [u16],
-    told: &mut [u32; 2],
-) -> u32
+pub fn guide_text(s: &[u8], which: &[u32; 4], units: &mut [u16], told: &mut [u32; 2]) -> u32
     ensures answers { Told amount_numbers (fitting_amount s.now which.now (length units.old)) told.old result told.new }
     ensures writes { units.new ≡ output_after units.old (fitting_units s.now which.now (length units.old)) }
 {

@@ -9,8 +9,7 @@ use telling::writers::{given_in, tell_length};
 use writing::{eits, etts};
 
 // An EIT: a row of eight numbers for each event, with places in `bytes`.
-#[unsafe(no_mangle)]
-pub extern "C" fn guide_write_eit(
+pub fn guide_write_eit(
     given: &[u32; 6],
     rows: &[u32],
     bytes: &[u8],
@@ -27,13 +26,7 @@ pub extern "C" fn guide_write_eit(
 }
 
 // An ETT: its text as bytes.
-#[unsafe(no_mangle)]
-pub extern "C" fn guide_write_ett(
-    given: &[u32; 6],
-    text: &[u8],
-    out: &mut [u8],
-    told: &mut [u32; 1],
-) -> u32
+pub fn guide_write_ett(given: &[u32; 6], text: &[u8], out: &mut [u8], told: &mut [u32; 1]) -> u32
     ensures answers { Told one_number (counted (ett_from given.now text.now (length out.old))) told.old result told.new }
     ensures writes { out.new ≡ output_after out.old (ett_from given.now text.now (length out.old)) }
 {

@@ -7,8 +7,7 @@ ghost use Rattle.lent.specs.Calls.{left, called, opening_in, closing_in, asking_
 use crate::on_book;
 use lent_memory::records::{LentWatch, gather, put_or};
 
-#[unsafe(no_mangle)]
-pub extern "C" fn lent_open(
+pub fn lent_open(
     ws: &mut [LentWatch],
     places: &mut [u32],
     area: &mut [u8],
@@ -24,8 +23,7 @@ pub extern "C" fn lent_open(
     c.number
 }
 
-#[unsafe(no_mangle)]
-pub extern "C" fn lent_close(
+pub fn lent_close(
     ws: &mut [LentWatch],
     places: &mut [u32],
     area: &mut [u8],
@@ -41,8 +39,7 @@ pub extern "C" fn lent_close(
     c.number
 }
 
-#[unsafe(no_mangle)]
-pub extern "C" fn lent_status(
+pub fn lent_status(
     ws: &mut [LentWatch],
     places: &mut [u32],
     area: &mut [u8],
@@ -58,8 +55,7 @@ pub extern "C" fn lent_status(
     c.number
 }
 
-#[unsafe(no_mangle)]
-pub extern "C" fn lent_fetch(
+pub fn lent_fetch(
     ws: &mut [LentWatch],
     places: &mut [u32],
     area: &mut [u8],
@@ -75,8 +71,7 @@ pub extern "C" fn lent_fetch(
     c.number
 }
 
-#[unsafe(no_mangle)]
-pub extern "C" fn lent_deliver(
+pub fn lent_deliver(
     ws: &mut [LentWatch],
     places: &mut [u32],
     area: &mut [u8],
