@@ -1,7 +1,7 @@
 #!/usr/bin/env python3
 """Writes the tables of crates/annex_c, crates/trees and crates/steps from data/: the two decode tables as constants (src/) and
 as lists (specs/), the two printed lists of codes (specs/); of trees the tables as matches of eight bytes an arm, and of steps
-the step tables as matches of four entries an arm, with the line of proof that each arm takes. Run it in any folder; the files that it writes are committed, and `--check` says whether they are
+the step tables as matches of four entries an arm, with the answer that each arm takes. Run it in any folder; the files that it writes are committed, and `--check` says whether they are
 still those that data/ gives."""
 import os
 import sys
@@ -37,8 +37,7 @@ pub const TABLE: [u8; %d] = *b"\\
 def as_list(kind, bytes_):
     rows = "\n".join("    " + "".join("%d ∷ " % b for b in row).rstrip() for row in lines(bytes_, 16))
     return """-- Annex C, type %d (%s): the decode table, bytes 0 to %d, 16 a line. Made by tools/annex_c.py.
-use Prim.Native.Nat.{ℕ}
-use mathlib.Core.List.{List, [], _∷_}
+use Rattle.std.specs.Prelude.{ℕ, List, [], ◌∷◌}
 
 unfoldable pub table%d : List ℕ
 table%d =
@@ -50,8 +49,8 @@ table%d =
 def printed(kind, rows):
     body = "\n".join("    code %s %s (%s ∷ []) ∷" % (p, s, " ∷ ".join(c)) for p, s, c in rows)
     return """-- Annex C, type %d (%s): the printed list of codes, a row each: prior symbol, symbol, code. Made by tools/annex_c.py.
-use mathlib.Core.List.{List, [], _∷_}
-use Rattle·annex_c·specs.specs.Codes.{Code, code}
+use Rattle.std.specs.Prelude.{List, [], ◌∷◌}
+use Rattle.annex_c.specs.Codes.{Code, code}
 
 unfoldable pub printed%d : List Code
 printed%d =
@@ -82,8 +81,7 @@ def step_words(bytes_):
 def as_words(kind, what, name, items):
     rows = "\n".join("    %d ∷" % w for w in items)
     return """-- Annex C, type %d (%s): the %s, the first lowest. Made by tools/annex_c.py.
-use Prim.Native.Nat.{ℕ}
-use mathlib.Core.List.{List, [], _∷_}
+use Rattle.std.specs.Prelude.{ℕ, List, [], ◌∷◌}
 
 unfoldable pub %s%d : List ℕ
 %s%d =
@@ -96,7 +94,7 @@ def match(public, name, said, items):
     arms = "".join("        %d => 0x%016x,\n" % arm for arm in enumerate(items))
     return """
 %sfn %s(i: usize) -> u64
-    ensures { λ r. ⌜ r ≡ getD %s i 0 ⌝ }
+    ensures { result ≡ get_or %s i 0 }
 {
     match i {
 %s        _ => 0,
@@ -108,9 +106,8 @@ def match(public, name, said, items):
 def tree_matches(kind, items):
     return """// Annex C, type %d (%s): the decode table, eight bytes an arm, and alone its first 64 words, which are the offsets. Made by
 // tools/annex_c.py.
-ghost use mathlib.Core.Path.{_≡_};
-ghost use lib.ListN.{getD, take};
-ghost use Rattle·trees·specs.specs.Words%d.{words%d};
+ghost use Rattle.std.specs.Prelude.{◌≡◌, get_or, take};
+ghost use Rattle.trees.specs.Words%d.{words%d};
 """ % (kind, WHAT[kind], kind, kind) + match("pub ", "row", "words%d" % kind, items) + match(
         "pub ", "head", "(take 64 words%d)" % kind, items[:64])
 
@@ -121,14 +118,13 @@ def step_part(kind, part):
 
 def step_matches(kind, items):
     return """// Annex C, type %d (%s): the step table, four entries an arm, in four parts. Made by tools/annex_c.py.
-ghost use mathlib.Core.Path.{_≡_};
-ghost use lib.ListN.{getD, take, drop};
-ghost use Rattle·steps·specs.specs.Words%d.{steps%d};
+ghost use Rattle.std.specs.Prelude.{◌≡◌, get_or, take, drop};
+ghost use Rattle.steps.specs.Words%d.{steps%d};
 """ % (kind, WHAT[kind], kind, kind) + "".join(
         match("", "row%d" % k, step_part(kind, k), items[128 * k:128 * k + 128]) for k in range(4)) + """
 // Word i.
 pub fn row(i: usize) -> u64
-    ensures { λ r. ⌜ r ≡ getD steps%d i 0 ⌝ }
+    ensures { result ≡ get_or steps%d i 0 }
 {
     let j = i %% 128;
     match i / 128 {
@@ -142,33 +138,31 @@ pub fn row(i: usize) -> u64
 """ % kind
 
 
-def proof(crate, kind, function, listed, said, taken, count):
-    arms = "".join("    (λ c. at (c .match .keys%d))\n" % (k + 1) for k in range(count))
-    past = "Rattle·trees%s.Past" % ("·proofs.proofs" if crate == "trees" else ".proofs")
-    return """-- `type%d::%s` meets its contract: each arm is its word. Made by tools/annex_c.py.
-use mathlib.Core.Path.{_≡_, sym, ap}
-use Prim.Native.Nat.{ℕ}
-use lib.ListN.{getD, %sList·getD-eq-default}
-use Rattle·%s·specs.specs.Words%d.{%s}
-use %s.{Nots, past}
-use Rattle·%s·proofs.proofs.type%d.%s.Statement.{statement}
-use Rattle·%s·proofs.proofs.type%d.%s.Tie as tie
-
-at : {i k : ℕ} → i ≡ k → getD %s k 0 ≡ getD %s i 0
-at e = sym (ap (λ (n : ℕ). getD %s n 0) e)
-
-past-end : (i : ℕ) → Nots %d i → 0 ≡ getD %s i 0
+def answers(crate, kind, function, listed, said, taken, count):
+    arms = "".join("""
+pub returns-in-%d : goal.returns-in-%d
 unfolding %s
-past-end i h = sym (List·getD-eq-default %s 0 (past %d h))
+returns-in-%d c = at c.in-%d.is
+""" % (k, k, listed, k, k) for k in range(count))
+    return """-- `type%d::%s` meets its contract: each arm is its word. Made by tools/annex_c.py.
+use mathlib.Core.Path.{◌≡◌, sym, ap}
+use Prim.Native.Nat.{ℕ}
+use lib.ListN.{get_or, %sget_or-eq_default}
+use Rattle.%s.specs.Words%d.{%s}
+use Rattle.trees.proofs.Past.{Nots, past}
+use Rattle.%s.proofs.type%d.%s.Goals as goal
 
-pub %s-spec : {M : Type 1} → statement M
-unfolding %s Nots
-%s-spec =
-    tie.close
-    (tie.spec
-%s    (λ c. past-end (c .before .args .i) (c .match .rest)))
-""" % (kind, function, taken, crate, kind, listed, past, crate, kind, function, crate, kind, function, said, said, said, count,
-       said, listed, said, count, function, listed, function, arms)
+at : {i k : ℕ} → i ≡ k → get_or %s k 0 ≡ get_or %s i 0
+at e = sym (ap (λ (n : ℕ). get_or %s n 0) e)
+
+past_end : (i : ℕ) → Nots %d i → 0 ≡ get_or %s i 0
+unfolding %s
+past_end i h = sym (get_or-eq_default %s 0 (past %d h))
+%s
+pub returns-in_default : goal.returns-in_default
+unfolding Nots
+returns-in_default c = search past_end
+""" % (kind, function, taken, crate, kind, listed, crate, kind, function, said, said, said, count, said, listed, said, count, arms)
 
 
 def main():
@@ -181,13 +175,13 @@ def main():
         listed = "words%d" % kind
         files["trees/specs/Words%d.antt" % kind] = as_words(kind, "decode table as words of eight bytes", "words", items)
         files["trees/src/type%d.rt" % kind] = tree_matches(kind, items)
-        files["trees/proofs/type%d/row/Proof.antt" % kind] = proof("trees", kind, "row", listed, listed, "", len(items))
-        files["trees/proofs/type%d/head/Proof.antt" % kind] = proof(
+        files["trees/proofs/type%d/row/Answers.antt" % kind] = answers("trees", kind, "row", listed, listed, "", len(items))
+        files["trees/proofs/type%d/head/Answers.antt" % kind] = answers(
             "trees", kind, "head", listed, "(take 64 %s)" % listed, "take, ", 64)
         files["steps/specs/Words%d.antt" % kind] = as_words(kind, "step table as words of four entries", "steps", steps)
         files["steps/src/type%d.rt" % kind] = step_matches(kind, steps)
         for part in range(4):
-            files["steps/proofs/type%d/row%d/Proof.antt" % (kind, part)] = proof(
+            files["steps/proofs/type%d/row%d/Answers.antt" % (kind, part)] = answers(
                 "steps", kind, "row%d" % part, "steps%d" % kind, step_part(kind, part), "take, drop, ", 128)
     stale = 0
     for name, text in files.items():

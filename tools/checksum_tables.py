@@ -26,16 +26,16 @@ HEAD = """// What stands for a byte after 40 bits 0, after 48, and so on, and fo
 // and its width, and makes a table of each in read-only memory. It does so only where the constant stands in the loop's own
 // function, so that there is a function for each. The constants are what so many bits 0 make of the register 1.
 // Made by tools/checksum_tables.py.
-ghost use Prim.Native.Nat.{_%_, _^_};
-ghost use Rattle·checksum·specs.specs.Register.{bitsIn};
-ghost use Rattle·checksum·specs.specs.Ahead.{StandsFor};
+ghost use Rattle.std.specs.Prelude.{◌%◌, ◌^◌};
+ghost use Rattle.checksum.specs.Register.{bits_in};
+ghost use Rattle.checksum.specs.Ahead.{StandsFor};
 """
 
 
 def byte_function(bits):
     return """
 pub fn byte_%d(y: u64) -> u64
-    ensures { λ a. ⌜ StandsFor (bitsIn %d 0 (y %% 256)) a ⌝ }
+    ensures { StandsFor (bits_in %d 0 (y %% 256)) result }
 {
     let mut q = y << 56;
     let mut i = 0u32;
@@ -55,68 +55,81 @@ pub fn byte_%d(y: u64) -> u64
 def word_function(bits):
     return """
 pub fn word_%d(y: u64) -> u64
-    ensures { λ a. ⌜ StandsFor (bitsIn %d 0 (y %% 2 ^ 32)) a ⌝ }
+    ensures { StandsFor (bits_in %d 0 (y %% 2 ^ 32)) result }
 {
     byte_%d(y >> 24) ^ (byte_%d(y >> 16) ^ (byte_%d(y >> 8) ^ byte_%d(y)))
 }
 """ % (bits, bits, bits + 24, bits + 16, bits + 8, bits)
 
 
-def byte_proof(bits):
+def byte_invariants(bits):
+    return """-- What holds in the loop of `tables::byte_%(bits)d`: the turns that are left lead to the product. Made by tools/checksum_tables.py.
+use Prim.Native.Nat.{ℕ, ◌-◌}
+use Rattle.checksum.proofs.Turns.{Left}
+use Rattle.checksum.proofs.tables.byte_%(bits)d.Given as goal
+
+abbrev g : ℕ
+g = %(constant)s
+
+abbrev pub invariant-loop-i : goal.invariant-loop-i
+invariant-loop-i l = Left g l.y l.q l.i
+
+abbrev pub decreases-loop-i : goal.decreases-loop-i
+decreases-loop-i l = 8 - l.i
+""" % {"bits": bits, "constant": constant(bits)}
+
+
+def byte_answers(bits):
     return """-- `tables::byte_%(bits)d` meets its contract: its constant is right, and so is its loop (proofs/Turns.antt).
 -- Assumes nothing. Made by tools/checksum_tables.py.
-use mathlib.Core.Path.{_≡_, refl}
-use mathlib.Core.Logic.{⊎-elim}
-use Prim.Native.Nat.{ℕ, _-_}
+use mathlib.Core.Path.{◌≡◌, refl}
+use Prim.Native.Nat.{ℕ}
 use native.Mathlib.Omega.{arith}
-use Rattle·checksum·specs.specs.Register.{poly, bitIn, bitsIn}
-use Rattle·checksum·proofs.proofs.Steps.{zeros}
-use Rattle·checksum·proofs.proofs.Turns.{Left, left-low, left-high, turned}
-use Rattle·checksum·proofs.proofs.tables.byte_%(bits)d.Statement.{statement}
-use Rattle·checksum·proofs.proofs.tables.byte_%(bits)d.Tie as tie
+use Rattle.checksum.specs.Register.{poly, bit_in, bits_in}
+use Rattle.checksum.proofs.Steps.{zeros}
+use Rattle.checksum.proofs.Turns.{left_low, left_high, turned}
+use Rattle.checksum.proofs.tables.byte_%(bits)d.Goals as goal
+use Rattle.checksum.proofs.tables.byte_%(bits)d.Goals.{then-%(top)s, else-%(top)s}
 
 abbrev g : ℕ
 g = %(constant)s
 
 right : zeros %(bits)d 1 ≡ g
-unfolding bitsIn bitIn poly
+unfolding bits_in bit_in poly
 right = refl
 
-pub byte-%(bits)d-spec : {M : Type 1} → statement M
-byte-%(bits)d-spec =
-    tie.close
-    (tie.spec (λ y q₀ i₀ q i. Left g y q i) (λ y q₀ i₀ q i. 8 - i) (λ c. (omega arith, refl)) (λ c. omega arith) (λ c. omega arith)
-    (λ c. let l = c .before .before .loop in
-    let more = c .before .loop-test .taken in
-    ⊎-elim (λ w. left-low g _ (l .q) _ (l .i) (omega arith) more (l .inv) (w .0 .taken) (w .1))
-    (λ w. left-high g _ (l .q) _ (l .i) (omega arith) more (l .inv) (w .0 .left) (w .1)) (c .if1 .came))
-    (λ c. turned %(bits)d g right (omega arith) _ (c .before .loop .q) (c .before .loop .i) (c .loop-test .left) (c .before .loop .inv)))
-""" % {"bits": bits, "constant": constant(bits)}
+pub loop-i-preserved : goal.loop-i-preserved
+loop-i-preserved c =
+    let l = c.loop-i in
+    let more = c.loop-i-test.true in
+    elim c.if-%(top)s.branch [
+      | then-%(top)s w ↦ left_low g _ l.q _ l.i (omega arith) more l.invariant w.if-%(top)s.true w.q-is
+      | else-%(top)s w ↦ left_high g _ l.q _ l.i (omega arith) more l.invariant w.if-%(top)s.false w.q-is
+    ]
+
+pub returns : goal.returns
+returns c = turned %(bits)d g right (omega arith) _ c.loop-i.q c.loop-i.i c.loop-i-test.false c.loop-i.invariant
+""" % {"bits": bits, "constant": constant(bits), "top": "q-lt9223372036854775808"}
 
 
-def word_proof(bits):
+def word_answers(bits):
     return """-- `tables::word_%(bits)d` meets its contract: each byte has the bytes after it for bits 0.
 -- Assumes nothing. Made by tools/checksum_tables.py.
-use borrow.Author.Needs.{needs}
-use Rattle·checksum·proofs.proofs.Blocks.{word}
-use Rattle·checksum·proofs.proofs.tables.word_%(bits)d.Statement.{statement}
-use Rattle·checksum·proofs.proofs.tables.word_%(bits)d.Tie as tie
+use Rattle.checksum.proofs.Blocks.{word}
+use Rattle.checksum.proofs.tables.word_%(bits)d.Goals as goal
 
-pub word-%(bits)d-spec : {M : Type 1} → statement M
-word-%(bits)d-spec =
-    tie.close
-    (tie.spec (λ c κs. search needs) (λ c κs. search needs) (λ c κs. search needs) (λ c κs. search needs)
-    (λ c. word %(bits)d _ _ _ _ _ (c .before .before .before .byte-%(b3)d .ensures) (c .before .before .byte-%(b2)d .ensures)
-    (c .before .byte-%(b1)d .ensures) (c .byte-%(bits)d .ensures)))
+pub returns : goal.returns
+returns c = word %(bits)d _ _ _ _ _ c.byte_%(b3)d.ensures c.byte_%(b2)d.ensures c.byte_%(b1)d.ensures c.byte_%(bits)d.ensures
 """ % {"bits": bits, "b3": bits + 24, "b2": bits + 16, "b1": bits + 8}
 
 
 def files():
     made = {"src/tables.rt": HEAD + "".join(map(byte_function, BYTES)) + "".join(map(word_function, WORDS))}
     for bits in BYTES:
-        made["proofs/tables/byte_%d/Proof.antt" % bits] = byte_proof(bits)
+        made["proofs/tables/byte_%d/Invariants.antt" % bits] = byte_invariants(bits)
+        made["proofs/tables/byte_%d/Answers.antt" % bits] = byte_answers(bits)
     for bits in WORDS:
-        made["proofs/tables/word_%d/Proof.antt" % bits] = word_proof(bits)
+        made["proofs/tables/word_%d/Answers.antt" % bits] = word_answers(bits)
     return made
 
 

@@ -59,7 +59,7 @@ unfolding then
 then_inv (To b) k e h = (b, (refl, h))
 then_inv (Bad x) k e h = never x e h
 
--- ---- skipTo
+-- ---- skip_to
 picked : (t : Bool) (a x b : ℕ) → pick t (To a) (Bad x) ≡ To b → (t ≡ true) × (b ≡ a)
 picked true a x b e = (refl, to_is a b e)
 picked false a x b e = never x b e
@@ -79,7 +79,7 @@ pub skip_past : (back at n end x : ℕ) → end < at + n → x ≡ at - back →
 unfolding skip_to
 skip_past back at n end x h e = rw (lt-leb (at + n) end h, e)
 
--- ---- bitsTo and fieldsTo
+-- ---- bits_to and fields_to
 module _ (n : ℕ) (ns : List ℕ) (p end : ℕ) where
   pub bits_past : (x : ℕ) → 8 * end < p + n → x ≡ p / 8 → Bad x ≡ bits_to (n ∷ ns) p end
   unfolding bits_to

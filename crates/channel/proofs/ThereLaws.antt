@@ -4,6 +4,8 @@ use mathlib.Core.Path.{◌≡◌, refl, sym, ap}
 use mathlib.Core.List.{List, ◌++◌}
 use native.Mathlib.Omega.{arith}
 use lib.ListN.{length}
+use Rattle.format.proofs.KeptLaws.{laws}
+use Rattle.format.specs.Formats.{walks}
 use Rattle.format.specs.Lawful.{Lies}
 use Rattle.format.specs.Repeats.{Bytes}
 use Rattle.format.specs.Laws.OfBytes.{lies_at, lies_split}
@@ -21,6 +23,11 @@ use Rattle.channel.specs.Walked.{channel}
 use Rattle.channel.specs.Fields.{name_at, tuning_at, service_at, descriptors_at, channel_end, channel_at, numbers_row, channel_row}
 use Rattle.channel.specs.Values.{descriptors_place, channel_for, row_for}
 use Rattle.channel.proofs.ChannelLaws.{channel_ends}
+
+-- the code's promises name a channel without the names of its values; its walk is the same
+pub same_channel : (s : List ℕ) (end at : ℕ) → walks channel s end at ≡ walks channel_format s end at
+unfolding channel
+same_channel s end at = refl
 
 module _ (s : List ℕ) (z : Bytes s) (a : ℕ) (x : ChannelFields) (o : channel_format.Ok (record {}) x) (l : Lies (channel_format.enc x) s a) where
   -- its head, and what stands behind it
@@ -62,4 +69,4 @@ module _ (s : List ℕ) (z : Bytes s) (a : ℕ) (x : ChannelFields) (o : channel
   pub end_there : channel_end s a ≡ a + length (channel_format.enc x)
   unfolding channel
   end_there =
-      sym (channel_ends s (a + length (channel_format.enc x)) a _ ((channel_format.law (record {})).sound s _ a x o l (omega arith)))
+      sym (channel_ends s (a + length (channel_format.enc x)) a _ ((channel_format.law laws (record {})).sound s _ a x o l (omega arith)))

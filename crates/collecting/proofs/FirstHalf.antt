@@ -165,6 +165,7 @@ module _ (k : Asked) (table : WholeTable k) where
   Split t (u ∷ ts) = (u ≡ t) ⊎ Made t ts
 
   split : (t : Turn) (ts : List Turn) → Made t ts → Split t ts
+  split t [] x' = elim x' [ ]
   split t (u ∷ ts) here = inl refl
   split t (u ∷ ts) (there o) = inr o
 

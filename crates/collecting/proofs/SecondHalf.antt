@@ -63,6 +63,8 @@ hears_tells v h b ds t = record {
 
 with_told : (hs : Option (List Heard)) (v : Option View) (b : List ℕ) (o : Outcome Header) → Told hs v → Told (heard_with hs b o) (hears_in v b o)
 with_told none none b o t = t
+with_told none (some v) b o t = elim t [ ]
+with_told (some ds) none b o t = elim t [ ]
 with_told (some ds) (some v) b (refused n) t = t
 with_told (some ds) (some v) b (resulted h) t = hears_tells v h b ds t
 
@@ -98,6 +100,9 @@ bytes_as (some b) = refl
 status_told_lem : (hs : Option (List Heard)) (v : Option View) → Told hs v → status_says v ≡ status_told hs
 unfolding status_of
 status_told_lem none none t = refl
+status_told_lem none (some v) t = elim t [ ]
+status_told_lem (some []) none t = elim t [ ]
+status_told_lem (some (d ∷ ds)) none t = elim t [ ]
 status_told_lem (some []) (some v) t = ap (λ (c : Bool). resulted (pick c (held_or_complete (held_in v) (v.edition.last + 1)) unheard)) t.edition_is
 status_told_lem (some (d ∷ ds)) (some v) t =
     let n : ℕ = d.head.last + 1 in
@@ -107,6 +112,8 @@ status_told_lem (some (d ∷ ds)) (some v) t =
 
 bytes_told_lem : (hs : Option (List Heard)) (v : Option View) (m : ℕ) → Told hs v → fetching_says v m ≡ bytes_told hs m
 bytes_told_lem none none m t = refl
+bytes_told_lem none (some v) m t = elim t [ ]
+bytes_told_lem (some ds) none m t = elim t [ ]
 bytes_told_lem (some ds) (some v) m t = ap bytes_or22 (t.kept_is m) ∙ bytes_as (newest m (run ds))
 
 -- ---- a stretch, from any state that is told

@@ -14,7 +14,7 @@ use Rattle.logic.proofs.LoopLaws.{and_i, and_left, and_right, both, same_truth}
 use Rattle.logic.proofs.CountLaws.{count_upto}
 use Rattle.shelf_state.specs.declared.records.Asked.{Asked}
 use Rattle.shelf_state.specs.declared.records.Shelf.{Shelf}
-use Rattle.shelf.specs.Views.{complete, held, asks, held_or_complete, current_on, delivers, delivery_says, fetches, fetching_says, key_in, status_says}
+use Rattle.shelf.specs.Views.{complete, held, held_or_complete, current_on, delivery_says, fetching_says, key_in, status_says}
 use Rattle.shelf.specs.Steps.{State, Turn, did, gave, step, reported, view_in}
 use Rattle.shelf_laws.specs.Laws.{Empty, Obeys, Says, OneStep}
 use Rattle.shelf_laws.proofs.EmptyLaws.{empty_law}

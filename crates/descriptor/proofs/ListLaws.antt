@@ -7,6 +7,7 @@ use lib.ListN.{length}
 use Rattle.bytes_at.specs.declared.Walk.TheVariants.{To}
 use Rattle.bytes_at.specs.Fields.{word_at}
 use Rattle.bytes_at.proofs.WalkLaws.{then_inv, skipped}
+use Rattle.format.proofs.KeptLaws.{laws}
 use Rattle.format.specs.Lawful.{Lies}
 use Rattle.format.specs.Repeats.{Bytes}
 use Rattle.format.specs.Formats.{walks, walks_all}
@@ -26,7 +27,7 @@ module _ (judged m : ℕ) (s : List ℕ) (end at b : ℕ) (w : walks (sized_desc
       let t = fields_end 16 [] 2 refl at end p.0 p.1.0 in
       let q = then_inv _ _ b p.1.1 in
       let u = skipped 2 p.0 (word_at s (p.0 - 2) % m) end q.0 q.1.0 in
-      let v = ((descriptors judged).law (record {})).whole s q.0 p.0 b q.1.1 in
+      let v = ((descriptors judged).law laws (record {})).whole s q.0 p.0 b q.1.1 in
       let z : word_at s (p.0 - 2) % m ≡ word_at s at % m = ap (λ (i : ℕ). word_at s i % m) (omega arith) in (
         omega (arith, t, u, v, z),
         (omega (arith, u, v), subst (λ e. walks_all (descriptors judged) s e (at + 2) ≡ To b) (omega (arith, v)) (subst (λ a. walks_all (descriptors judged) s q.0 a ≡ To b) t.0 q.1.1)),

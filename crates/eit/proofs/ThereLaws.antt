@@ -4,6 +4,7 @@ use mathlib.Core.Path.{◌≡◌, refl, sym, ap, ◌∙◌}
 use mathlib.Core.List.{List, [], ◌∷◌, ◌++◌}
 use native.Mathlib.Omega.{arith}
 use lib.ListN.{length, length-append}
+use Rattle.format.proofs.KeptLaws.{laws}
 use Rattle.format.specs.Lawful.{Lies}
 use Rattle.format.specs.Repeats.{Bytes, encs}
 use Rattle.format.specs.Formats.{walks_all}
@@ -103,7 +104,7 @@ module _ (s : List ℕ) (z : Bytes s) (a : ℕ) (e : EventFields) (o : event_for
   unfolding event
   end_there =
       let b = a + length (event_format.enc e) in
-      sym (event_ends s b a b ((event_format.law (record {})).sound s b a e o l (omega arith)))
+      sym (event_ends s b a b ((event_format.law laws (record {})).sound s b a e o l (omega arith)))
 
 -- ---- the whole body
 -- the code's promises name the body without the names of its values; its walk is the same

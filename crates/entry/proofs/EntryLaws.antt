@@ -5,13 +5,13 @@ use mathlib.Core.List.{List}
 use native.Mathlib.Omega.{arith}
 use lib.ListN.{length}
 use Rattle.bytes_at.specs.declared.Walk.TheVariants.{To}
-use Rattle.bytes_at.specs.Walks.{many, standing}
+use Rattle.bytes_at.specs.Walks.{standing}
 use Rattle.bytes_at.specs.Inner.{Stands}
 use Rattle.bytes_at.proofs.WalkLaws.{many_in, reached, stands_at, standing_to, standing_is}
 use Rattle.refusal.specs.Outcomes.{Outcome, refused, resulted, after}
 use Rattle.refusal.proofs.OutcomeLaws.{after_is}
 use Rattle.refusal.proofs.TestLaws.{lets_lt, stops_lt, passed_lt}
-use Rattle.kind.specs.Kinds.{onlyOf}
+use Rattle.kind.specs.Kinds.{only_of}
 use Rattle.format.specs.Formats.{walks}
 use Rattle.mgt.proofs.DefinedLaws.{defined_forward}
 use Rattle.mgt.proofs.BodyLaws.{body_tables}
@@ -67,7 +67,7 @@ body_entries Channel s x w = let p = body_channels s (length s - 4) (start_of Ch
 body_entries Dimension s x w = let p = body_dimensions s (length s - 4) (start_of Dimension) x w in ((p.0, p.1.0), p.1.1.1)
 body_entries Event s x w = body_events s (length s - 4) (start_of Event) x w
 
-module _ (e : Entry) (s : List ℕ) (h : Header) (judged : section_by (onlyOf (kind_of_entry e)) s ≡ resulted h) where
+module _ (e : Entry) (s : List ℕ) (h : Header) (judged : section_by (only_of (kind_of_entry e)) s ≡ resulted h) where
   pub judged_entries : Stands (entry_walk e s (entry_count e s))
   judged_entries = let w = (section_sound (kind_of_entry e) s h judged).1 in (body_entries e s w.0 w.1).0
 
@@ -97,7 +97,7 @@ module _ (e : Entry) (s : List ℕ) (h : Header) (judged : section_by (onlyOf (k
 pub entry_stands : (e : Entry) (s : List ℕ) (i a : ℕ) → spot_of e s i ≡ resulted a → Stands (walks (format_of e) s (length s - 4) a)
 unfolding spot_of spot_in entry_walk
 entry_stands e s i a q =
-    let h = after_is (section_by (onlyOf (kind_of_entry e)) s) _ a q in
+    let h = after_is (section_by (only_of (kind_of_entry e)) s) _ a q in
     let l = passed_lt 13 i (entry_count e s) _ a h.1.1 in
     let w = standing_is (entry_walk e s i) a l.1 in
     let j = judged_entries e s h.0 h.1.0 in

@@ -4,7 +4,7 @@ use Rattle.bytes_at.specs.declared.Walk.{Walk}
 use Rattle.bytes_at.specs.Walks.{many, standing}
 use Rattle.refusal.specs.Numbers.{number_of}
 use Rattle.refusal.specs.Outcomes.{Outcome, refused, resulted, after, or_refuse}
-use Rattle.kind.specs.Kinds.{onlyOf}
+use Rattle.kind.specs.Kinds.{only_of}
 use Rattle.format.specs.Formats.{Format, walks}
 use Rattle.format.specs.Values.{One}
 use Rattle.mgt.specs.Walked.{defined}
@@ -48,12 +48,12 @@ first_entry Event s = eits.first_at (start_of Event)
 unfoldable pub entry_walk : Entry → List ℕ → ℕ → Walk
 entry_walk e s i = many (walks (format_of e) s (length s - 4)) i (first_entry e s)
 
--- 13 where there is no entry i. In a section that was judged the walk always stands: laws `entry_found` and `rest-found`
+-- 13 where there is no entry i. In a section that was judged the walk always stands: laws `entry_found` and `rest_found`
 unfoldable pub spot_in : Entry → List ℕ → ℕ → Outcome ℕ
 spot_in e s i = or_refuse 13 (ltb i (entry_count e s)) (standing (entry_walk e s i))
 
 unfoldable pub spot_of : Entry → List ℕ → ℕ → Outcome ℕ
-spot_of e s i = after (section_by (onlyOf (kind_of_entry e)) s) (λ h. spot_in e s i)
+spot_of e s i = after (section_by (only_of (kind_of_entry e)) s) (λ h. spot_in e s i)
 
 -- where all entries are passed: what follows them begins there
 unfoldable pub rest_in : Entry → List ℕ → Outcome ℕ

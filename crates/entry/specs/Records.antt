@@ -11,7 +11,7 @@ use Rattle.rrt.specs.Values.{first_for, first_value_for}
 use Rattle.eit.specs.Format.{event_format}
 use Rattle.kind.specs.declared.Kind.{Kind}
 use Rattle.kind.specs.declared.Kind.TheVariants.{Mgt, Tvct, Rrt, Eit}
-use Rattle.kind.specs.Kinds.{limitsOf}
+use Rattle.kind.specs.Kinds.{limits_of}
 use Rattle.section.specs.Encoding.{Section}
 use Rattle.entry.specs.declared.Entry.{Entry}
 use Rattle.entry.specs.declared.Entry.TheVariants.{Table, Channel, Dimension, Event}
@@ -24,7 +24,7 @@ kind_of_entry Dimension = Rrt
 kind_of_entry Event = Eit
 
 abbrev pub start_of : Entry → ℕ
-start_of e = (limitsOf (kind_of_entry e)).body
+start_of e = (limits_of (kind_of_entry e)).body
 
 -- the entry's format, with its record as values
 abbrev pub record_of : Entry → Format One

@@ -15,7 +15,8 @@ use Rattle.logic.specs.Choices.{pick}
 use Rattle.bytes_at.specs.Walks.{skip_to, bits_to, fields_to, then}
 use Rattle.bytes_at.proofs.WalkLaws.{skip_fits, skip_past, bits_on, bits_past, bits_done}
 use Rattle.format.specs.Lawful.{total}
-use Rattle.format.specs.Laws.OfBytes.{bits_begin, fields_took}
+use Rattle.format.specs.Laws.OfBytes.{bits_begin}
+use Rattle.format.proofs.StepLaws.{fields_took}
 
 -- fields of no bits at a head's end change nothing
 bits_none : (z p end : ℕ) → p ≤ 8 * end → To (p / 8) ≡ bits_to (replicate z 0) p end

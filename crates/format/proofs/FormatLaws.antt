@@ -13,6 +13,7 @@ use Rattle.bytes_at.proofs.WalkLaws.{then_inv}
 use Rattle.format.specs.Repeats.{Bytes}
 use Rattle.format.specs.Lawful.{total}
 use Rattle.format.specs.Laws.OfBytes.{part_length}
+use Rattle.format.proofs.KeptLaws.{laws}
 use Rattle.format.specs.Formats.{Format, Filling, Reader, Full, head, walks}
 use Rattle.format.proofs.FieldLaws.{fields_end}
 
@@ -27,13 +28,13 @@ module _ (s : List ℕ) (end at : ℕ) (h : at ≤ end) (m : end ≤ length s) (
       → (f.walk c s end at ≡ To e) ↔ ((x : f.Val) × (f.Ok c x × (((at ≤ e) × (e ≤ end)) × (between s at e ≡ f.enc x))))
   accepted f c e = (
     (λ w.
-        let u = (f.law c).complete s end at e h m z w in
+        let u = (f.law laws c).complete s end at e h m z w in
         let n : e - at ≡ length (f.enc u.0) = omega arith in
-        (u.0, (u.1.0, ((f.law c).within s end at e h w, ap (λ k. take k (drop at s)) n ∙ u.1.1.0)))),
+        (u.0, (u.1.0, ((f.law laws c).within s end at e h w, ap (λ k. take k (drop at s)) n ∙ u.1.1.0)))),
     (λ u.
         let n : length (f.enc u.0) ≡ e - at = sym (ap length u.1.1.1) ∙ part_length s (e - at) at (omega arith) in
         let l = ap (λ k. take k (drop at s)) n ∙ u.1.1.1 in
-        (f.law c).sound s end at u.0 u.1.0 l (omega arith) ∙ ap To (omega arith)),
+        (f.law laws c).sound s end at u.0 u.1.0 l (omega arith) ∙ ap To (omega arith)),
   )
 
   -- a filling's walk comes to the container's end exactly when all its bytes are those of a well-formed value
@@ -41,23 +42,23 @@ module _ (s : List ℕ) (end at : ℕ) (h : at ≤ end) (m : end ≤ length s) (
       → (f.walk c s end at ≡ To end) ↔ ((x : f.Val) × (f.Ok c x × (between s at end ≡ f.enc x)))
   accepted_all f c = (
     (λ w.
-        let u = (f.law c).complete s end at h m z w in
+        let u = (f.law laws c).complete s end at h m z w in
         let n : end - at ≡ length (f.enc u.0) = omega arith in
         (u.0, (u.1.0, ap (λ k. take k (drop at s)) n ∙ u.1.1.0))),
     (λ u.
         let n : length (f.enc u.0) ≡ end - at = sym (ap length u.1.1) ∙ part_length s (end - at) at (omega arith) in
         let l = ap (λ k. take k (drop at s)) n ∙ u.1.1 in
-        (f.law c).sound s end at u.0 u.1.0 l (omega arith)),
+        (f.law laws c).sound s end at u.0 u.1.0 l (omega arith)),
   )
 
 -- ---- bytes are those of one value only
 pub once : {C : Type 0} (f : Format C) (c : C) {l : List ℕ} (x y : f.Val) → f.Ok c x → f.Ok c y
     → l ≡ f.enc x → l ≡ f.enc y → x ≡ y
-once f c x y o r e g = (f.law c).unique x y [] [] o r (ap (λ l. l ++ []) (sym e ∙ g))
+once f c x y o r e g = (f.law laws c).unique x y [] [] o r (ap (λ l. l ++ []) (sym e ∙ g))
 
 pub once_all : {C : Type 0} (f : Filling C) (c : C) {l : List ℕ} (x y : f.Val) → f.Ok c x → f.Ok c y
     → l ≡ f.enc x → l ≡ f.enc y → x ≡ y
-once_all f c x y o r e g = (f.law c).unique x y o r (sym e ∙ g)
+once_all f c x y o r e g = (f.law laws c).unique x y o r (sym e ∙ g)
 
 -- ---- heads
 -- what has a head is not empty
@@ -71,7 +72,7 @@ pub head_forward : {C : Type 0} (n : ℕ) (ns : List ℕ) (k : ℕ) (whole : tot
 head_forward n ns k whole r f s end at e w =
     let p = then_inv _ _ e w in
     let t = fields_end n ns k whole at end p.0 p.1.0 in
-    let i = (f.law (r.read s p.0)).within s end p.0 e t.1 p.1.1 in
+    let i = (f.law laws (r.read s p.0)).within s end p.0 e t.1 p.1.1 in
     (omega arith, i.1)
 
 -- ---- sequences

@@ -1,3 +1,8 @@
+pub mod StepLaws
+pub mod HeadLaws
+pub mod ContainerLaws
+pub mod TimesLaws
+pub mod KeptLaws
 pub mod FieldLaws
 pub mod RepeatLaws
 pub mod FormatLaws

@@ -11,6 +11,7 @@ use Rattle.format.specs.Lawful.{Lies}
 use Rattle.format.specs.Repeats.{All, encs}
 use Rattle.format.specs.Values.{One}
 use Rattle.format.specs.Laws.OfBytes.{lies_split}
+use Rattle.format.proofs.KeptLaws.{laws}
 use Rattle.format.specs.Formats.{Format, walks}
 use Rattle.format.specs.Listed.{nth_of}
 
@@ -38,7 +39,7 @@ module _ (f : Format One) (s : List ℕ) (end : ℕ) where
   first_inside a x xs g = let i = g.inside in omega (arith, length-append (f.enc x) (encs f.enc xs))
 
   pub first_walks : (a : ℕ) (x : f.Val) (xs : List f.Val) → Stand f s end a (x ∷ xs) → walks f s end a ≡ To (a + length (f.enc x))
-  first_walks a x xs g = (f.law (record {})).sound s end a x g.good.0 (first_lies a x xs g) (first_inside a x xs g)
+  first_walks a x xs g = (f.law laws (record {})).sound s end a x g.good.0 (first_lies a x xs g) (first_inside a x xs g)
 
   -- past them all
   pub all_walk : (a : ℕ) (xs : List f.Val) → Stand f s end a xs → many (walks f s end) (length xs) a ≡ To (a + length (encs f.enc xs))

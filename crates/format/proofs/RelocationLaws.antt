@@ -5,12 +5,13 @@ use mathlib.Core.Path.{◌≡◌, sym, ap, ◌∙◌}
 use mathlib.Core.Logic.{◌↔◌}
 use mathlib.Core.List.{List}
 use native.Mathlib.Omega.{arith}
-use lib.ListN.{length, take}
+use lib.ListN.{length}
 use lib.Seq.{take_all}
 use Rattle.bytes_at.specs.declared.Walk.TheVariants.{To}
 use Rattle.bytes_at.specs.Inner.{Stands}
 use Rattle.format.specs.Repeats.{Bytes}
 use Rattle.format.specs.Laws.OfBytes.{part_bytes, part_length}
+use Rattle.format.proofs.KeptLaws.{laws}
 use Rattle.format.specs.Formats.{Format, Filling}
 use Rattle.format.proofs.FormatLaws.{between, accepted, accepted_all}
 
@@ -25,7 +26,7 @@ module _ {C : Type 0} (f : Filling C) (c : C) where
   pub moved : (s t : List ℕ) (e a d b : ℕ) → Within s e a → Within t d b → between s a e ≡ between t b d
       → Stands (f.walk c s e a) → Stands (f.walk c t d b)
   moved s t e a d b i j p w =
-      let n = (f.law c).whole s e a w.0 w.1 in
+      let n = (f.law laws c).whole s e a w.0 w.1 in
       let x = (accepted_all s e a i.ordered i.inside i.bytes f c).0 (w.1 ∙ ap To n) in
       (d, (accepted_all t d b j.ordered j.inside j.bytes f c).1 (x.0, (x.1.0, sym p ∙ x.1.1)))
 
@@ -61,7 +62,7 @@ pub own_bytes : {C : Type 0} (f : Filling C) (c : C) (t : List ℕ) → Bytes t
     → Stands (f.walk c t (length t) 0) ↔ ((x : f.Val) × (f.Ok c x × (t ≡ f.enc x)))
 own_bytes f c t z = (
   (λ w.
-      let n = (f.law c).whole t (length t) 0 w.0 w.1 in
+      let n = (f.law laws c).whole t (length t) 0 w.0 w.1 in
       let u = (accepted_all t (length t) 0 (omega arith) (omega arith) z f c).0 (w.1 ∙ ap To n) in
       (u.0, (u.1.0, sym (take_all (length t - 0) t (omega arith)) ∙ u.1.1))),
   (λ u. (length t, (accepted_all t (length t) 0 (omega arith) (omega arith) z f c).1 (u.0, (u.1.0, take_all (length t - 0) t (omega arith) ∙ u.1.1)))),

@@ -12,7 +12,7 @@ use Rattle.bytes_at.specs.declared.Walk.TheVariants.{To, Bad}
 use Rattle.bytes_at.specs.Walks.{bits_to, fields_to, then, many, ends}
 use Rattle.bytes_at.proofs.WalkLaws.{seq_bad, seq_to, bits_on, bits_past}
 use Rattle.format.specs.Lawful.{unto, total}
-use Rattle.format.specs.Laws.OfBytes.{fields_fit}
+use Rattle.format.proofs.StepLaws.{fields_fit}
 
 -- ---- runs of n entries of m fields of one byte each: nothing in them is read, so they are one step; the byte that is missing
 -- first is the one at the container's end

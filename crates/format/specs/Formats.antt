@@ -1,7 +1,8 @@
 -- The language of formats. A format is its values (`Val`), which of them are well formed (`Ok`), and their bytes (`enc`). It carries a walk, which
--- code takes, with the proof that the walk accepts exactly the bytes of well-formed values: `walk`, `law`, and `same` of a reader can be passed
--- over. A walk reads a head from behind, as code does, and blames the field that fails: a field that is cut by its own offset, a length
--- that promises too much and a count that may not be 0 by theirs.
+-- code takes, and the proof that the walk accepts exactly the bytes of well-formed values: `walk`, `law`, and `same` of a reader can be passed
+-- over. The proof is for the case that the laws of Laws/Statements.antt hold, as they do (`laws` of proofs/KeptLaws.antt). A walk reads a head from
+-- behind, as code does, and blames the field that fails: a field that is cut by its own offset, a length that promises too much and a count that may
+-- not be 0 by theirs.
 use Rattle.std.specs.Prelude.{ℕ, suc, ◌+◌, ◌-◌, ◌*◌, ◌<◌, ◌≡◌, ◌⊎◌, List, ◌++◌, Bool, length, eqb}
 use Rattle.std.proofs.Common.{sym, ap, ◌∙◌, arith}
 use Rattle.std.proofs.Math.Option.{Option}
@@ -12,10 +13,11 @@ use Rattle.bytes_at.specs.Walks.{skip_to, fields_to, then, many, ends}
 use Rattle.format.specs.Lawful.{Walker, Lies, Lawful, Fills, unto, total}
 use Rattle.format.specs.Repeats.{Bytes, All, encs, OkOpt, enc_opt, OkSum, enc_sum}
 use Rattle.format.specs.Values.{One}
-use Rattle.format.specs.Laws.OfBytes.{fields_law, raw_law, lies_byte}
-use Rattle.format.specs.Laws.OfHeads.{head_law, seq_law, via_law}
-use Rattle.format.specs.Laws.OfContainers.{filled_law, exact_law, before_law, under_law, any_law, opt_law, choice_law}
-use Rattle.format.specs.Laws.OfRepeats.{times_law, some_law, list_law}
+use Rattle.format.specs.Laws.OfBytes.{raw_law, lies_byte}
+use Rattle.format.specs.Laws.OfHeads.{seq_law, via_law}
+use Rattle.format.specs.Laws.OfContainers.{filled_law, before_law, under_law, any_law, choice_law}
+use Rattle.format.specs.Laws.OfRepeats.{times_law}
+use Rattle.format.specs.Laws.Statements.{Laws}
 
 -- ---- what a format is
 
@@ -25,7 +27,7 @@ pub record Format (C : Type 0) : Type 1 where
   pub Ok : C → Val → Type 0
   pub enc : Val → List ℕ
   pub walk : C → Walker
-  pub law : (c : C) → Lawful (walk c) (Ok c) enc
+  pub law : Laws → (c : C) → Lawful (walk c) (Ok c) enc
 
 -- a format that takes its whole container
 pub record Filling (C : Type 0) : Type 1 where
@@ -33,7 +35,7 @@ pub record Filling (C : Type 0) : Type 1 where
   pub Ok : C → Val → Type 0
   pub enc : Val → List ℕ
   pub walk : C → Walker
-  pub law : (c : C) → Fills (walk c) (Ok c) enc
+  pub law : Laws → (c : C) → Fills (walk c) (Ok c) enc
 
 -- ---- readers: what a head tells of what follows it
 -- what is read of a head of k bytes by a walk that stands behind it: the same wherever the head stands
@@ -77,25 +79,33 @@ both q r = record {
 }
 
 -- ---- fields and heads
--- fields of these widths, together k bytes
-abbrev pub fields : (ns : List ℕ) (k : ℕ) → total ns ≡ 8 * k → Format One
-fields ns k whole = record {
+-- fields of these widths, together k bytes, as the laws say
+abbrev pub fields_by : (ns : List ℕ) (k : ℕ) → (Laws → total ns ≡ 8 * k) → Format One
+fields_by ns k whole = record {
   Val = List ℕ;
   Ok = λ u x. (length x ≡ k) × Bytes x;
   enc = λ x. x;
   walk = λ u s end at. fields_to ns at end;
-  law = λ u. fields_law ns k whole;
+  law = λ w u. w.fields_law ns k (whole w);
 }
 
--- a head of fields, and then what it tells of
-abbrev pub head : {C : Type 0} (ns : List ℕ) (k : ℕ) → total ns ≡ 8 * k → Reader k C → Format C → Format One
-head ns k whole r f = record {
+-- fields of these widths, together k bytes
+abbrev pub fields : (ns : List ℕ) (k : ℕ) → total ns ≡ 8 * k → Format One
+fields ns k whole = fields_by ns k (λ w. whole)
+
+-- a head of fields, together k bytes as the laws say, and then what it tells of
+abbrev pub head_by : {C : Type 0} (ns : List ℕ) (k : ℕ) → (Laws → total ns ≡ 8 * k) → Reader k C → Format C → Format One
+head_by ns k whole r f = record {
   Val = List ℕ × f.Val;
   Ok = λ u x. ((length x.0 ≡ k) × Bytes x.0) × f.Ok (r.read x.0 k) x.1;
   enc = λ x. x.0 ++ f.enc x.1;
   walk = λ u s end at. then (fields_to ns at end) (λ b. f.walk (r.read s b) s end b);
-  law = λ u. head_law ns k whole r.read r.same f.law;
+  law = λ w u. w.head_law ns k (whole w) r.read r.same (f.law w);
 }
+
+-- a head of fields, and then what it tells of
+abbrev pub head : {C : Type 0} (ns : List ℕ) (k : ℕ) → total ns ≡ 8 * k → Reader k C → Format C → Format One
+head ns k whole r f = head_by ns k (λ w. whole) r f
 
 -- ---- containers
 -- as many bytes as are told by a length field `back` bytes before
@@ -105,7 +115,7 @@ raw back = record {
   Ok = λ n x. (length x ≡ n) × Bytes x;
   enc = λ x. x;
   walk = λ n s end at. skip_to back at n end;
-  law = raw_law back;
+  law = λ w. raw_law back;
 }
 
 -- as many bytes as are told by a length field `back` bytes before, which a format fills
@@ -115,7 +125,7 @@ filled back f = record {
   Ok = λ n x. (length (f.enc x) ≡ n) × f.Ok (record {}) x;
   enc = f.enc;
   walk = λ n s end at. then (skip_to back at n end) (λ e. f.walk (record {}) s e at);
-  law = λ n. filled_law back n (f.law (record {}));
+  law = λ w n. filled_law back n (f.law w (record {}));
 }
 
 -- the same for a format of which something is told beside the length
@@ -125,7 +135,7 @@ filled_by back f = record {
   Ok = λ n x. (length (f.enc x) ≡ n.0) × f.Ok n.1 x;
   enc = f.enc;
   walk = λ n s end at. then (skip_to back at n.0 end) (λ e. f.walk n.1 s e at);
-  law = λ n. filled_law back n.0 (f.law n.1);
+  law = λ w n. filled_law back n.0 (f.law w n.1);
 }
 
 -- ---- one after the other, and several times
@@ -136,7 +146,7 @@ seq f g = record {
   Ok = λ u x. f.Ok u x.0 × g.Ok u x.1;
   enc = λ x. f.enc x.0 ++ g.enc x.1;
   walk = λ u s end at. then (f.walk u s end at) (g.walk u s end);
-  law = λ u. seq_law (f.law u) (g.law u);
+  law = λ w u. seq_law (f.law w u) (g.law w u);
 }
 
 -- as often as is told
@@ -146,7 +156,7 @@ times f = record {
   Ok = λ n xs. (length xs ≡ n) × All (f.Ok (record {})) xs;
   enc = encs f.enc;
   walk = λ n s end at. many (f.walk (record {}) s end) n at;
-  law = times_law (f.law (record {}));
+  law = λ w. times_law (f.law w (record {}));
 }
 
 -- as often as is told by a count `back` bytes before, and not 0 times
@@ -156,7 +166,7 @@ one_or_more back f = record {
   Ok = λ n xs. (0 < n) × ((length xs ≡ n) × All (f.Ok (record {})) xs);
   enc = encs f.enc;
   walk = λ n s end at. pick (eqb n 0) (Bad (at - back)) (many (f.walk (record {}) s end) n at);
-  law = λ n. some_law back n (times_law (f.law (record {})) n);
+  law = λ w n. w.some_law back n (times_law (f.law w (record {})) n);
 }
 
 -- ---- what fills a container
@@ -167,7 +177,7 @@ exact f = record {
   Ok = f.Ok;
   enc = f.enc;
   walk = λ u s end at. then (f.walk u s end at) (ends end);
-  law = λ u. exact_law (f.law u);
+  law = λ w u. w.exact_law (f.law w u);
 }
 
 -- a format, and one that takes what is left of the container
@@ -177,12 +187,12 @@ before f g = record {
   Ok = λ u x. f.Ok u x.0 × g.Ok u x.1;
   enc = λ x. f.enc x.0 ++ g.enc x.1;
   walk = λ u s end at. then (f.walk u s end at) (g.walk u s end);
-  law = λ u. before_law (f.law u) (g.law u);
+  law = λ w u. before_law (f.law w u) (g.law w u);
 }
 
 -- whatever bytes there are
 abbrev pub any_bytes : Filling One
-any_bytes = record { Val = List ℕ; Ok = λ u x. Bytes x; enc = λ x. x; walk = λ u s end at. To end; law = λ u. any_law }
+any_bytes = record { Val = List ℕ; Ok = λ u x. Bytes x; enc = λ x. x; walk = λ u s end at. To end; law = λ w u. any_law }
 
 -- one or the other, by a test on what is told
 abbrev pub choice : {C : Type 0} → (C → Bool) → Filling One → Filling One → Filling C
@@ -191,7 +201,7 @@ choice t f g = record {
   Ok = λ c. OkSum (t c) (f.Ok (record {})) (g.Ok (record {}));
   enc = enc_sum f.enc g.enc;
   walk = λ c s end at. pick (t c) (f.walk (record {}) s end at) (g.walk (record {}) s end at);
-  law = λ c. choice_law (t c) (f.law (record {})) (g.law (record {}));
+  law = λ w c. choice_law (t c) (f.law w (record {})) (g.law w (record {}));
 }
 
 -- no value of it is empty
@@ -205,7 +215,7 @@ opt f full = record {
   Ok = λ u. OkOpt (f.Ok u);
   enc = enc_opt f.enc;
   walk = λ u s end at. pick (eqb at end) (To at) ((exact f).walk u s end at);
-  law = λ u. opt_law ((exact f).law u) full;
+  law = λ w u. w.opt_law ((exact f).law w u) full;
 }
 
 -- as many as fill the container
@@ -215,7 +225,7 @@ list f full = record {
   Ok = λ u. All (f.Ok u);
   enc = encs f.enc;
   walk = λ u s end at. unto (f.walk u s) end end at;
-  law = λ u. list_law (f.law u) full;
+  law = λ w u. w.list_law (f.law w u) full;
 }
 
 -- ---- the same bytes and walk under other values
@@ -233,7 +243,7 @@ via f {Y} {OkY} r = record {
   Ok = λ u. OkY;
   enc = λ y. f.enc (r.to y);
   walk = f.walk;
-  law = λ u. via_law (f.law u) r.to r.good r.onto r.inj;
+  law = λ w u. via_law (f.law w u) r.to r.good r.onto r.inj;
 }
 
 -- the same bytes and walk, and as values those of a record
@@ -254,7 +264,7 @@ under_all f {Y} to from a b = record {
   Ok = λ u y. f.Ok u (to y);
   enc = λ y. f.enc (to y);
   walk = f.walk;
-  law = λ u. under_law (f.law u) to from a b;
+  law = λ w u. under_law (f.law w u) to from a b;
 }
 
 -- the walk of a format of which nothing is told: what code computes

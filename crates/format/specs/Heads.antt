@@ -1,21 +1,11 @@
--- What formats of fields are made of: how a walk steps past fields, and their values at their bits; what a reader reads from behind a head; and when fields with what
--- follows them are well formed.
-use Rattle.std.specs.Prelude.{ℕ, ◌+◌, ◌^◌, ◌<◌, zero, suc, ◌≡◌, List, [], ◌∷◌, length}
+-- What formats of fields are made of: how a walk steps past fields (Steps.antt), and their values at their bits; what a reader reads from behind a
+-- head; and when fields with what follows them are well formed.
+use Rattle.std.specs.Prelude.{ℕ, ◌+◌, ◌^◌, ◌<◌, ◌≡◌, List, [], ◌∷◌, length}
 use Rattle.bytes_at.specs.Bits.{bits_at, field_at}
 use Rattle.format.specs.Repeats.{Bytes}
 use Rattle.format.specs.Formats.{Format, Reader}
-use Rattle.format.specs.Values.{Field, bits, reserved, piece, bits_of, width, Vals, Fit}
-
--- the steps of a walk past fields, after n bits that lead: reserved bits and pieces count to the field that they lead
-abbrev pub steps_after : List Field → ℕ → List ℕ
-steps_after [] zero = []
-steps_after [] (suc n) = suc n ∷ []
-steps_after (bits m ∷ fs) n = (n + m) ∷ steps_after fs 0
-steps_after (reserved m ∷ fs) n = steps_after fs (n + m)
-steps_after (piece m ∷ fs) n = steps_after fs (n + m)
-
-abbrev pub steps : List Field → List ℕ
-steps fs = steps_after fs 0
+pub use Rattle.format.specs.Steps.{steps_after, steps}
+use Rattle.format.specs.Values.{Field, bits_of, width, Vals, Fit}
 
 -- the values that stand from o bits after the byte `at` on
 abbrev pub vals_at : (fs : List Field) → List ℕ → ℕ → ℕ → Vals fs

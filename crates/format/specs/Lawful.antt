@@ -1,5 +1,5 @@
 -- What a format's `walk` and `law` are made of: what it is for a walk to accept exactly the encodings of values.
-use Rattle.std.specs.Prelude.{ℕ, zero, suc, ◌+◌, ◌≤◌, ◌≡◌, List, ◌++◌, [], ◌∷◌, length, take, drop, ltb}
+use Rattle.std.specs.Prelude.{ℕ, zero, suc, ◌+◌, ◌≤◌, ◌<◌, ◌≡◌, List, ◌++◌, [], ◌∷◌, length, take, drop, ltb}
 use Rattle.bytes_at.specs.declared.Walk.{Walk}
 use Rattle.bytes_at.specs.declared.Walk.TheVariants.{To}
 use Rattle.logic.specs.Choices.{pick}
@@ -41,6 +41,10 @@ pub record Fills {X : Type 0} (W : Walker) (Ok : X → Type 0) (enc : X → List
   pub unique : (x y : X) → Ok x → Ok y → enc x ≡ enc y → x ≡ y
   pub whole : (s : List ℕ) (end at e : ℕ) → W s end at ≡ To e → e ≡ end
   pub bytes : (x : X) → Ok x → Bytes (enc x)
+
+-- no value is empty
+abbrev pub NotEmpty : {X : Type 0} → (X → Type 0) → (X → List ℕ) → Type 0
+NotEmpty {X} Ok enc = (x : X) → Ok x → 0 < length (enc x)
 
 -- the walk p until the container's end. The first number bounds the steps: the bytes left are enough
 unfoldable pub unto : (ℕ → ℕ → Walk) → ℕ → ℕ → ℕ → Walk

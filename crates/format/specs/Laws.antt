@@ -3,6 +3,7 @@ pub mod OfBytes
 pub mod OfHeads
 pub mod OfContainers
 pub mod OfRepeats
+pub mod Statements
 pub mod OfValues
 pub mod OfNamed
 pub mod OfTold

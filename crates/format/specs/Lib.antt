@@ -3,6 +3,7 @@
 pub mod Values
 pub mod Repeats
 pub mod Lawful
+pub mod Steps
 pub mod Laws
 pub mod Formats
 pub mod Heads

@@ -1,14 +1,14 @@
 -- Formats whose values are the numbers of fields. Of `named fs k ..`, with fields fs that are k bytes together: a value is a number for each field; its bytes are
 -- `bytes_of k (number fs v)`; it is well formed where each number fits its field. What else stands in `of_fields` is proof.
-use Rattle.std.specs.Prelude.{ℕ, ◌-◌, ◌*◌, ◌≡◌, List, length}
+use Rattle.std.specs.Prelude.{ℕ, ◌*◌, ◌≡◌, List, length}
 use Rattle.std.proofs.Common.{sym, ap, ◌∙◌, arith}
 use Rattle.std.proofs.Math.Seq.{take-length}
 use Rattle.format.specs.Repeats.{Bytes}
-use Rattle.format.specs.Formats.{Format, Recast, fields, via}
+use Rattle.format.specs.Formats.{Format, Recast, fields_by, via}
 use Rattle.format.specs.Values.{One, Field, width, Vals, Fit, number, bytes_of}
 use Rattle.format.specs.Heads.{steps, vals_at}
 use Rattle.format.specs.Laws.OfNamed.{below, vals_there, vals_back}
-use Rattle.format.specs.Laws.OfValues.{steps_width, vals_fit, bytes_length, bytes_bytes}
+use Rattle.format.specs.Laws.OfValues.{vals_fit, bytes_length, bytes_bytes}
 
 -- ---- fields, together k bytes
 module _ (fs : List Field) (k : ℕ) (whole : width fs ≡ 8 * k) where
@@ -24,4 +24,4 @@ module _ (fs : List Field) (k : ℕ) (whole : width fs ≡ 8 * k) where
 
   -- their values; their bytes; the walk past them
   abbrev pub named : Format One
-  named = via (fields (steps fs) k (steps_width fs 0 ∙ (omega arith))) of_fields
+  named = via (fields_by (steps fs) k (λ w. w.steps_width fs 0 ∙ (omega arith))) of_fields

@@ -1,16 +1,16 @@
 -- Formats with a head whose last field is a length or a count of what follows. The value has the other fields and what follows; the last field is no value of its
 -- own, for `tally` tells it of what follows. Of `told fs n k .. c .. f tally ..`, with fields fs, a last one of n bits, k bytes in all, and a format f of which the
--- head tells c: a value is (v, x), a number for each of the fields fs and a value of f; its bytes are `headBytes fs n k v (tally x) ++ f.enc x`; it is well formed
--- where `OkTold` says so. What else stands in `of-told` is proof.
-use Rattle.std.specs.Prelude.{ℕ, suc, ◌+◌, ◌-◌, ◌*◌, ◌%◌, ◌^◌, ◌≡◌, refl, List, [], ◌∷◌, ◌++◌, length}
+-- head tells c: a value is (v, x), a number for each of the fields fs and a value of f; its bytes are `head_bytes fs n k v (tally x) ++ f.enc x`; it is well formed
+-- where `OkTold` says so. What else stands in `of_told` is proof.
+use Rattle.std.specs.Prelude.{ℕ, suc, ◌+◌, ◌*◌, ◌%◌, ◌^◌, ◌≡◌, refl, List, [], ◌∷◌, ◌++◌, length}
 use Rattle.std.proofs.Common.{sym, ap, arith}
 use Rattle.format.specs.Repeats.{Bytes}
-use Rattle.format.specs.Formats.{Format, Filling, Reader, Recast, last_byte, last_but_one, last_word, both, through, head, raw, filled, filled_by, times, one_or_more, via}
+use Rattle.format.specs.Formats.{Format, Filling, Reader, Recast, last_byte, last_but_one, last_word, both, through, head_by, raw, filled, filled_by, times, one_or_more, via}
 use Rattle.bytes_at.proofs.BitLaws.{word_bits}
 use Rattle.format.specs.Values.{One, Field, bits, reserved, width, Vals, head_bytes}
 use Rattle.format.specs.Heads.{steps, vals_at, Tells, OkTold}
 use Rattle.format.specs.Laws.OfValues.{bytes_length, bytes_bytes}
-use Rattle.format.specs.Laws.OfTold.{steps_whole, head_below, told_good, told_onto, told_once, last_tells, low16_tells, low8_tells, tag_tells}
+use Rattle.format.specs.Laws.OfTold.{steps_whole_by, head_below, told_good, told_onto, told_once, last_tells, low16_tells, low8_tells, tag_tells}
 
 -- ---- the head and what it tells of
 module _ {C : Type 0} (fs : List Field) (n k : ℕ) (whole : width fs + n ≡ 8 * k) (r : Reader k C) (c : Vals fs → ℕ → C)
@@ -32,7 +32,7 @@ module _ {C : Type 0} (fs : List Field) (n k : ℕ) (whole : width fs + n ≡ 8 
   }
 
   abbrev pub told : Format One
-  told = via (head (steps (fs ++ (bits n ∷ []))) k (steps_whole fs n k whole) r f) of_told
+  told = via (head_by (steps (fs ++ (bits n ∷ []))) k (steps_whole_by fs n k whole) r f) of_told
 
 -- ---- lengths and counts of 8 bits after fields, together k + 1 bytes
 module _ (fs : List Field) (k : ℕ) (whole : width fs + 8 ≡ 8 * suc k) where

@@ -12,7 +12,7 @@ use Rattle.refusal.proofs.OutcomeLaws.{after_is, same_result, went_on}
 use Rattle.refusal.proofs.TestLaws.{passed_le}
 use Rattle.kind.specs.declared.Kind.{Kind}
 use Rattle.kind.specs.declared.Kind.TheVariants.{Rrt, Eit, Ett}
-use Rattle.kind.specs.Kinds.{onlyOf, limitsOf}
+use Rattle.kind.specs.Kinds.{only_of, limits_of}
 use Rattle.format.specs.Repeats.{Bytes}
 use Rattle.rrt.specs.Fields.{dimension_end}
 use Rattle.section.specs.Sections.{section_by}
@@ -49,7 +49,7 @@ module _ (s : List ℕ) (bytes : Bytes s) where
   rows_whole : (r : Row) (room : ℕ) → Whole one_number (rows_of r s room)
   unfolding rows_of rows_in
   rows_whole r room a e =
-      let p = after_is (section_by (onlyOf (kind_of_entry (entry_for r))) s) _ a e in
+      let p = after_is (section_by (only_of (kind_of_entry (entry_for r))) s) _ a e in
       room_whole (row_width r) (entry_count (entry_for r) s) room (omega (arith, count_small (entry_for r))) a p.1.1
 
   -- a dimension has at most fifteen values
@@ -61,13 +61,13 @@ module _ (s : List ℕ) (bytes : Bytes s) where
   values_whole : (room : ℕ) → Whole one_number (value_rows_of s room)
   unfolding value_rows_of value_rows_in
   values_whole room a e =
-      let p = after_is (section_by (onlyOf Rrt) s) _ a e in
+      let p = after_is (section_by (only_of Rrt) s) _ a e in
       room_whole 6 _ room (omega (arith, values_small (entry_count Dimension s) (first_entry Dimension s), count_small Dimension)) a p.1.1
 
   titles_whole : (rows units : ℕ) → Whole counts_numbers (titles.titles_of s rows units)
   unfolding titles.titles_of titles.titles_in titles.room_for_titles
   titles_whole rows units a e =
-      let p = after_is (section_by (onlyOf Eit) s) _ a e in
+      let p = after_is (section_by (only_of Eit) s) _ a e in
       let q = passed_le 12 (12 * titles.event_count s) rows _ a p.1.1 in
       let t = passed_le 12 (length (titles.units_from s (titles.event_count s) titles.first_event)) units _ a q.1 in
       let n = judged_size Eit s p.0 p.1.0 in
@@ -82,7 +82,7 @@ largest_whole : (k : Kind) (room : ℕ) (bytes : List ℕ) (s : List ℕ) → al
 unfolding allowed length_fits
 largest_whole k room bytes s e =
     let p = went_on 24 _ (resulted bytes) s e in
-    let n = leb-true (length bytes) ((limitsOf k).largest + 3) (and_left _ _ p.0) in
+    let n = leb-true (length bytes) ((limits_of k).largest + 3) (and_left _ _ p.0) in
     let m = largest_small k in
     rw (← same_result bytes s p.1) (omega arith)
 

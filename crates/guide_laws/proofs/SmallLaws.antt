@@ -11,7 +11,7 @@ use Rattle.refusal.proofs.OutcomeLaws.{after_is, same_result}
 use Rattle.refusal.proofs.TestLaws.{passed_lt}
 use Rattle.kind.specs.declared.Kind.{Kind}
 use Rattle.kind.specs.declared.Kind.TheVariants.{Mgt, Tvct, Rrt, Eit, Ett}
-use Rattle.kind.specs.Kinds.{limitsOf, onlyOf}
+use Rattle.kind.specs.Kinds.{limits_of, only_of}
 use Rattle.bytes_at.specs.Fields.{word_at}
 use Rattle.format.specs.Formats.{walks}
 use Rattle.format.specs.Repeats.{Bytes}
@@ -64,27 +64,27 @@ pub word_small : (s : List ℕ) → Bytes s → (i : ℕ) → word_at s i < 6553
 word_small s g i = omega (arith, g i, g (i + 1))
 
 -- ---- places
-pub largest_small : (k : Kind) → (limitsOf k).largest + 3 ≤ 4096
+pub largest_small : (k : Kind) → (limits_of k).largest + 3 ≤ 4096
 largest_small Mgt = omega arith
 largest_small Tvct = omega arith
 largest_small Rrt = omega arith
 largest_small Eit = omega arith
 largest_small Ett = omega arith
 
-pub judged_size : (k : Kind) (s : List ℕ) (h : Header) → section_by (onlyOf k) s ≡ resulted h → length s ≤ 4096
+pub judged_size : (k : Kind) (s : List ℕ) (h : Header) → section_by (only_of k) s ≡ resulted h → length s ≤ 4096
 judged_size k s h e = let p = (section_sound k s h e).0 in let m = largest_small k in omega (arith, m, p.largest, p.size)
 
 -- where entry i begins, and where all are passed
 pub spot_small : (e : Entry) (s : List ℕ) (i a : ℕ) → spot_of e s i ≡ resulted a → a ≤ 4096
 unfolding spot_of spot_in
 spot_small e s i a q =
-    let h = after_is (section_by (onlyOf (kind_of_entry e)) s) _ a q in
+    let h = after_is (section_by (only_of (kind_of_entry e)) s) _ a q in
     let l = passed_lt 13 i (entry_count e s) _ a h.1.1 in
     let w = standing_is (entry_walk e s i) a l.1 in
     let n = entries_inside e s i a (judged_begins e s h.0 h.1.0) w in
     omega (arith, n, judged_size (kind_of_entry e) s h.0 h.1.0)
 
-pub rest_small : (e : Entry) (s : List ℕ) (h : Header) (b : ℕ) → section_by (onlyOf (kind_of_entry e)) s ≡ resulted h → rest_in e s ≡ resulted b → b ≤ 4096
+pub rest_small : (e : Entry) (s : List ℕ) (h : Header) (b : ℕ) → section_by (only_of (kind_of_entry e)) s ≡ resulted h → rest_in e s ≡ resulted b → b ≤ 4096
 unfolding rest_in
 rest_small e s h b judged q =
     let w = standing_is (entry_walk e s (entry_count e s)) b q in
@@ -94,7 +94,7 @@ rest_small e s h b judged q =
 pub value_small : (s : List ℕ) (i d j a : ℕ) → spot_of Dimension s i ≡ resulted d → value_spot s d j ≡ resulted a → a ≤ 4096
 unfolding spot_of value_spot
 value_small s i d j a p q =
-    let h = after_is (section_by (onlyOf (kind_of_entry Dimension)) s) _ d p in
+    let h = after_is (section_by (only_of (kind_of_entry Dimension)) s) _ d p in
     let l = passed_lt 13 j (values_at s d) _ a q in
     let w = standing_is (many (walks value s (length s - 4)) j (first_value_at s d)) a l.1 in
     omega (arith, values_inside s d j a l.0 w, judged_size Rrt s h.0 h.1.0)

@@ -10,7 +10,7 @@ use Rattle.logic.specs.Choices.{if_eq}
 use Rattle.refusal.specs.Outcomes.{Outcome, refused, resulted}
 use Rattle.refusal.proofs.OutcomeLaws.{after_is, same_result, not_both}
 use Rattle.refusal.proofs.TestLaws.{passed_le}
-use Rattle.kind.specs.Kinds.{onlyOf}
+use Rattle.kind.specs.Kinds.{only_of}
 use Rattle.bytes_at.specs.Fields.{byte_at}
 use Rattle.format.specs.Repeats.{Bytes}
 use Rattle.format.specs.Formats.{walks_all}
@@ -122,7 +122,7 @@ module _ (s : List ℕ) (bytes : Bytes s) where
   unfolding text_units field_of
   text_units_lem w k us e =
       let p = after_is (field_of s w) _ us e in
-      let h = after_is (section_by (onlyOf (kind_for w)) s) _ p.0 p.1.0 in
+      let h = after_is (section_by (only_of (kind_for w)) s) _ p.0 p.1.0 in
       let n = judged_size (kind_for w) s h.0 h.1.0 in
       let l : length (bytes_in s p.0) ≤ length s = simp (length-take, length-drop) (omega arith) in
       omega (arith, n, l, few_units (bytes_in s p.0) (length (bytes_in s p.0)) 0 k us p.1.1)

@@ -10,7 +10,7 @@ use Rattle.refusal.specs.Outcomes.{Outcome, resulted}
 use Rattle.refusal.proofs.OutcomeLaws.{after_is, went_on}
 use Rattle.kind.specs.declared.Kind.{Kind}
 use Rattle.kind.specs.declared.Kind.TheVariants.{Mgt, Tvct, Rrt, Eit, Ett}
-use Rattle.kind.specs.Kinds.{onlyOf, kind_of, tableIdOf}
+use Rattle.kind.specs.Kinds.{only_of, kind_of, table_id_of}
 use Rattle.bytes_at.specs.Fields.{byte_at}
 use Rattle.bytes_at.specs.Bits.{bits_at}
 use Rattle.format.specs.Repeats.{Bytes}
@@ -50,7 +50,7 @@ use Rattle.guide_laws.proofs.TextLaws.{fields_whole, texts_whole}
 use Rattle.guide_laws.proofs.CountLaws.{counts_whole, written_whole}
 use Rattle.guide_laws.proofs.SmallLaws.{Small, small_whole, told_whole, picked, small_join, word_small, judged_size, spot_small, rest_small, value_small, part_small, list12_small, list10_small, text_small, text_end_lem}
 
-table_id_small : (k : Kind) → tableIdOf k < 256
+table_id_small : (k : Kind) → table_id_of k < 256
 table_id_small Mgt = omega arith
 table_id_small Tvct = omega arith
 table_id_small Rrt = omega arith
@@ -69,13 +69,13 @@ module _ (s : List ℕ) (bytes : Bytes s) where
       subst (λ x. map noted (header_numbers x) ≡ header_numbers x) (sym p.1.fields) (small_whole _ (header_small p.0))
 
   -- the extension of a section of one kind
-  extension_small : (k : Kind) (h : Header) → section_by (onlyOf k) s ≡ resulted h → h.extension < 65536
+  extension_small : (k : Kind) (h : Header) → section_by (only_of k) s ≡ resulted h → h.extension < 65536
   extension_small k h e = rw (section_sound k s h e).0.fields (word_small s bytes 3)
 
   mgt_whole : Whole mgt_numbers (mgts.fields_of s)
   unfolding mgts.fields_of mgts.fields_in mgt_numbers
   mgt_whole t e =
-      let p = after_is (section_by (onlyOf Mgt) s) _ t e in
+      let p = after_is (section_by (only_of Mgt) s) _ t e in
       let q = after_is (rest_in Table s) _ t p.1.1 in
       told_whole mgt_numbers _ t q.1.1 (omega (arith, word_small s bytes 9), list12_small s q.0 (omega (arith, rest_small Table s p.0 q.0 p.1.0 q.1.0)))
 
@@ -101,7 +101,7 @@ module _ (s : List ℕ) (bytes : Bytes s) where
   tvct_whole : Whole tvct_numbers (tvcts.fields_of s)
   unfolding tvcts.fields_of tvcts.fields_in tvct_numbers
   tvct_whole t e =
-      let p = after_is (section_by (onlyOf Tvct) s) _ t e in
+      let p = after_is (section_by (only_of Tvct) s) _ t e in
       let q = after_is (rest_in Channel s) _ t p.1.1 in
       told_whole tvct_numbers _ t q.1.1
       (omega (arith, extension_small Tvct p.0 p.1.0), (omega (arith, bytes 9), list10_small s q.0 (omega (arith, rest_small Channel s p.0 q.0 p.1.0 q.1.0))))
@@ -185,7 +185,7 @@ module _ (s : List ℕ) (bytes : Bytes s) where
   rrt_whole : Whole rrt_numbers (rrts.fields_of s)
   unfolding rrts.fields_of rrts.fields_in
   rrt_whole t e =
-      let p = after_is (section_by (onlyOf Rrt) s) _ t e in
+      let p = after_is (section_by (only_of Rrt) s) _ t e in
       let q = after_is (rest_in Dimension s) _ t p.1.1 in
       told_whole rrt_numbers (rrt.fields_at s p.0.extension 9 q.0) t q.1.1
       (rrt_small p.0.extension q.0 (extension_small Rrt p.0 p.1.0) (rest_small Dimension s p.0 q.0 p.1.0 q.1.0))
@@ -218,7 +218,7 @@ module _ (s : List ℕ) (bytes : Bytes s) where
   eit_whole : Whole eit_numbers (eits.fields_of s)
   unfolding eits.fields_of eit_numbers
   eit_whole t e =
-      let p = after_is (section_by (onlyOf Eit) s) _ t e in
+      let p = after_is (section_by (only_of Eit) s) _ t e in
       told_whole eit_numbers _ t p.1.1 (omega (arith, extension_small Eit p.0 p.1.0), (omega (arith, bytes 9), record {}))
 
   ett_small : (x n : ℕ) → x < 65536 → n ≤ 4096 → Small (ett_numbers (ett.fields_at s x 9 n))
@@ -228,7 +228,7 @@ module _ (s : List ℕ) (bytes : Bytes s) where
   ett_whole : Whole ett_numbers (etts.fields_of s)
   unfolding etts.fields_of
   ett_whole t e =
-      let p = after_is (section_by (onlyOf Ett) s) _ t e in
+      let p = after_is (section_by (only_of Ett) s) _ t e in
       let n = judged_size Ett s p.0 p.1.0 in
       told_whole ett_numbers (ett.fields_at s p.0.extension 9 (length s - 4)) t p.1.1
       (ett_small p.0.extension (length s - 4) (extension_small Ett p.0 p.1.0) (omega arith))

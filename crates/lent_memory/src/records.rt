@@ -1,5 +1,4 @@
-// The lent list of watch records, which no covered function may hold: read into a book of sixteen watches by value, and one record
-// written back.
+// The lent list of watch records: read into a book of sixteen watches by value, and one record written back.
 ghost use Rattle.std.specs.Prelude.{◌≡◌, get_or, set};
 ghost use Rattle.logic.specs.Loops.{one};
 ghost use Rattle.lent_memory.specs.Meaning.{blank, is_on, watch_meant, lent_record};

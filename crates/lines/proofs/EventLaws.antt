@@ -6,12 +6,11 @@ use native.Mathlib.Numerals.{sub-one}
 use native.Mathlib.Omega.{arith}
 use lib.ListN.{length}
 use Rattle.bytes_at.specs.declared.Walk.TheVariants.{To}
-use Rattle.bytes_at.specs.Walks.{many}
 use Rattle.bytes_at.proofs.WalkLaws.{many_inv}
 use Rattle.refusal.specs.Outcomes.{resulted}
 use Rattle.kind.specs.declared.Kind.{Kind}
 use Rattle.kind.specs.declared.Kind.TheVariants.{Eit}
-use Rattle.kind.specs.Kinds.{limitsOf, kind_of}
+use Rattle.kind.specs.Kinds.{limits_of, kind_of}
 use Rattle.format.specs.Repeats.{Bytes}
 use Rattle.format.specs.Formats.{walks}
 use Rattle.strings.specs.Places.{text_at}
@@ -50,25 +49,25 @@ title_placed s n a z v h =
 
 -- ---- the events of a section that was judged
 eit_events : (s : List ℕ) (h : Header) → section_by kind_of s ≡ resulted h → h.kind ≡ Eit
-    → Events s (count_at s (limitsOf Eit).body) (first_at (limitsOf Eit).body)
+    → Events s (count_at s (limits_of Eit).body) (first_at (limits_of Eit).body)
 unfolding body_of
 eit_events s h p q =
     let w = section_walked kind_of s h p in
     let v = any_header_passed s h (section_header kind_of s h p) in
     let k : v.0 ≡ Eit = sym (ap (λ (g : Header). g.kind) v.1.fields) ∙ q in
     let c = subst (λ (x : Kind). Passed x s h) k v.1 in
-    let b = body_events s (length s - 4) (limitsOf Eit).body w.0 (subst (λ (x : Kind). body_walk x s ≡ To w.0) q w.1) in
+    let b = body_events s (length s - 4) (limits_of Eit).body w.0 (subst (λ (x : Kind). body_walk x s ≡ To w.0) q w.1) in
     record { end = length s - 4; stands = b.0; begins = omega (arith, b.1); inside = omega arith; small = omega (arith, c.largest, c.size) }
 
 -- of the kind that was read, with its body where the code begins it
-pub section_events : (s : List ℕ) (h : Header) (at : ℕ) → section_by kind_of s ≡ resulted h → h.kind ≡ Eit → at ≡ (limitsOf h.kind).body
+pub section_events : (s : List ℕ) (h : Header) (at : ℕ) → section_by kind_of s ≡ resulted h → h.kind ≡ Eit → at ≡ (limits_of h.kind).body
     → Events s (count_at s at) (first_at at)
 section_events s h at p q e =
-    subst (λ (x : ℕ). Events s (count_at s x) (first_at x)) (sym (e ∙ ap (λ (k : Kind). (limitsOf k).body) q)) (eit_events s h p q)
+    subst (λ (x : ℕ). Events s (count_at s x) (first_at x)) (sym (e ∙ ap (λ (k : Kind). (limits_of k).body) q)) (eit_events s h p q)
 
-pub events_rest : (s : List ℕ) (k : Kind) (at : ℕ) → k ≡ Eit → at ≡ (limitsOf k).body → events_shown s at ≡ rest_shown s k
+pub events_rest : (s : List ℕ) (k : Kind) (at : ℕ) → k ≡ Eit → at ≡ (limits_of k).body → events_shown s at ≡ rest_shown s k
 unfolding rest_shown
-events_rest s k at q e = rw q (ap (events_shown s) (e ∙ ap (λ (x : Kind). (limitsOf x).body) q))
+events_rest s k at q e = rw q (ap (events_shown s) (e ∙ ap (λ (x : Kind). (limits_of x).body) q))
 
 -- ---- the loop over the events
 -- one line is put, and the others are left

@@ -17,7 +17,7 @@ use Rattle.kind.specs.declared.Kind.{Kind}
 use Rattle.kind.specs.declared.Kind.TheVariants.{Mgt, Tvct, Rrt, Eit, Ett}
 use Rattle.kind.specs.declared.Found.{Found}
 use Rattle.kind.specs.declared.Found.TheVariants.{Is, Nothing}
-use Rattle.kind.specs.Kinds.{limitsOf, kind_of}
+use Rattle.kind.specs.Kinds.{limits_of, kind_of}
 use Rattle.format.specs.Repeats.{Bytes}
 use Rattle.format.specs.Laws.OfBytes.{part_bytes}
 use Rattle.format.specs.Laws.OfValues.{vals_fit}
@@ -88,7 +88,7 @@ abbrev Told : Outcome Header → Type 0
 Told (refused k) = k < 256
 Told (resulted h) = (h.extension < 65536) × (h.version < 32) × (h.number < 256) × (h.last < 256)
 
-zero_few : (k : Kind) → number_of (limitsOf k).zero_refusal < 256
+zero_few : (k : Kind) → number_of (limits_of k).zero_refusal < 256
 zero_few Mgt = omega arith
 zero_few Tvct = omega arith
 zero_few Rrt = omega arith
@@ -96,13 +96,13 @@ zero_few Eit = omega arith
 zero_few Ett = omega arith
 
 module _ (s : List ℕ) (z : Bytes s) where
-  numbers_told : (k : Kind) → Told (number_tests (limitsOf k) k s)
+  numbers_told : (k : Kind) → Told (number_tests (limits_of k) k s)
   unfolding number_tests
   numbers_told k =
       either_way Told _ _ _ (zero_few k)
       (either_way Told 8 _ _ (omega arith) (either_way Told 8 _ _ (omega arith) (omega (arith, z 3, z 4), omega arith, z 6, z 7)))
 
-  lengths_told : (k : Kind) → Told (length_tests (limitsOf k) k s)
+  lengths_told : (k : Kind) → Told (length_tests (limits_of k) k s)
   unfolding length_tests checksum_test
   lengths_told k =
       either_way Told 3 _ _ (omega arith) (either_way Told 3 _ _ (omega arith)
@@ -191,7 +191,7 @@ module _ (s : List ℕ) (z : Bytes s) where
   rest_few h p Mgt e = omega arith
   rest_few h p Tvct e = omega arith
   rest_few h p Rrt e = omega arith
-  rest_few h p Eit e = let at = (limitsOf Eit).body in events_few at (section_events s h at p e (ap (λ (k : Kind). (limitsOf k).body) (sym e)))
+  rest_few h p Eit e = let at = (limits_of Eit).body in events_few at (section_events s h at p e (ap (λ (k : Kind). (limits_of k).body) (sym e)))
   rest_few h p Ett e = omega arith
 
   outcome_few : (pid : ℕ) → pid < 65536 → (o : Outcome Header) → section_by kind_of s ≡ o → Told o

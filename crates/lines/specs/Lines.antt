@@ -3,7 +3,7 @@ use Rattle.std.specs.Prelude.{ℕ, zero, suc, List, [], ◌++◌, leb}
 use Rattle.refusal.specs.Outcomes.{Outcome, refused, resulted, or_refuse}
 use Rattle.kind.specs.declared.Kind.{Kind}
 use Rattle.kind.specs.declared.Kind.TheVariants.{Mgt, Tvct, Rrt, Eit, Ett}
-use Rattle.kind.specs.Kinds.{limitsOf, kind_of}
+use Rattle.kind.specs.Kinds.{limits_of, kind_of}
 use Rattle.eit.specs.declared.event.Event.{Event}
 use Rattle.eit.specs.Fields.{count_at, first_at, event_at, event_end}
 use Rattle.section.specs.declared.header.Header.{Header}
@@ -52,7 +52,7 @@ unfoldable pub rest_shown : List ℕ → Kind → List ℕ
 rest_shown s Mgt = ascii "\n"
 rest_shown s Tvct = ascii "\n"
 rest_shown s Rrt = ascii "\n"
-rest_shown s Eit = events_shown s (limitsOf Eit).body
+rest_shown s Eit = events_shown s (limits_of Eit).body
 rest_shown s Ett = ascii "\n"
 
 -- the number of the refusal, or the section

@@ -1,4 +1,4 @@
--- Choices by a test. `ifLt` and `ifEq` are shut, so that a definition that is a nest of them is read test by test.
+-- Choices by a test. `if_lt` and `if_eq` are shut, so that a definition that is a nest of them is read test by test.
 use Rattle.std.specs.Prelude.{ℕ, Bool, true, false, eqb, ltb}
 
 -- the first of the two where the test holds, else the second

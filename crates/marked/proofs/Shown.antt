@@ -4,7 +4,7 @@ use mathlib.Core.Path.{refl}
 use Rattle.checksum.specs.Register.{sealed, four_bytes}
 use Rattle.checksum.proofs.Sealing.{sealed_sound}
 use Rattle.logic.specs.Choices.{if_lt, if_eq}
-use Rattle.kind.specs.Kinds.{kind_of, onlyOf}
+use Rattle.kind.specs.Kinds.{kind_of, only_of}
 use Rattle.bytes_at.specs.Walks.{skip_to, bits_to, fields_to, then, many, ends, standing}
 use Rattle.format.specs.Lawful.{unto}
 use Rattle.bytes_at.specs.Bits.{bit_at, bits_at}
@@ -49,7 +49,7 @@ use Rattle.marked.specs.Sections.{eit11, eit4093, tvct1021, mgt14, rrt18, ett15,
 use Rattle.marked.specs.Marked.{P1, P2, P3, P4, P5, P6, P7, P8, P9, P10, P11, P12, P13, Shows, marked, AllHold}
 
 p1 : Shows P1
-unfolding header_by of_kind length_tests checksum_test number_tests if_lt if_eq kind_of sealed four_bytes section_by body_test body_of then many ends skip_to bits_to fields_to unto segment string structure text sized_text content descriptor descriptors list12 eit events event onlyOf after fields_of or_refuse standing
+unfolding header_by of_kind length_tests checksum_test number_tests if_lt if_eq kind_of sealed four_bytes section_by body_test body_of then many ends skip_to bits_to fields_to unto segment string structure text sized_text content descriptor descriptors list12 eit events event only_of after fields_of or_refuse standing
 p1 = (rw (sealed_sound (eit11 0 0)), (refl, (rw (sealed_sound (eit11 0 0)), refl)))
 
 p2 : Shows P2
@@ -77,11 +77,11 @@ unfolding header_by of_kind length_tests checksum_test number_tests if_lt if_eq 
 p7 = (rw (sealed_sound (eit11 3 3)), rw (sealed_sound (eit11 4 3)))
 
 p8 : Shows P8
-unfolding header_by of_kind length_tests checksum_test number_tests if_lt if_eq kind_of sealed four_bytes section_by body_test body_of then many ends skip_to bits_to fields_to unto segment string structure text sized_text content descriptor descriptors list12 eit events event onlyOf after format_of entry_count first_entry entry_walk standing spot_in spot_of entry_of bit_at bits_at text_at text_end list_at title_part title_at title_of descriptors_at event_at or_refuse
+unfolding header_by of_kind length_tests checksum_test number_tests if_lt if_eq kind_of sealed four_bytes section_by body_test body_of then many ends skip_to bits_to fields_to unto segment string structure text sized_text content descriptor descriptors list12 eit events event only_of after format_of entry_count first_entry entry_walk standing spot_in spot_of entry_of bit_at bits_at text_at text_end list_at title_part title_at title_of descriptors_at event_at or_refuse
 p8 = (rw (sealed_sound no_title), rw (sealed_sound zero_title))
 
 p9 : Shows P9
-unfolding header_by of_kind length_tests checksum_test number_tests if_lt if_eq kind_of sealed four_bytes section_by body_test body_of then many ends skip_to bits_to fields_to unto segment string structure text sized_text content descriptor descriptors list12 eit events event onlyOf after format_of entry_count first_entry entry_walk spot_in spot_of entry_of bit_at bits_at text_at text_end list_at title_part title_at title_of descriptors_at event_at title_in field_of text_units way_of pairs units_by segment_units standing string_count string_at joined joined_units string_units or_refuse
+unfolding header_by of_kind length_tests checksum_test number_tests if_lt if_eq kind_of sealed four_bytes section_by body_test body_of then many ends skip_to bits_to fields_to unto segment string structure text sized_text content descriptor descriptors list12 eit events event only_of after format_of entry_count first_entry entry_walk spot_in spot_of entry_of bit_at bits_at text_at text_end list_at title_part title_at title_of descriptors_at event_at title_in field_of text_units way_of pairs units_by segment_units standing string_count string_at joined joined_units string_units or_refuse
 p9 = (refl, (refl, (refl, (rw (sealed_sound tea_section), (rw (sealed_sound tea_section), rw (sealed_sound tea_section))))))
 
 p10 : Shows P10

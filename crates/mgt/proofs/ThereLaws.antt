@@ -4,6 +4,7 @@ use mathlib.Core.Path.{◌≡◌, refl, sym, ap}
 use mathlib.Core.List.{List, [], ◌∷◌, ◌++◌}
 use native.Mathlib.Omega.{arith}
 use lib.ListN.{length, length-append}
+use Rattle.format.proofs.KeptLaws.{laws}
 use Rattle.format.specs.Lawful.{Lies}
 use Rattle.format.specs.Repeats.{Bytes, encs}
 use Rattle.format.specs.Laws.OfBytes.{lies_at, lies_split}
@@ -67,7 +68,7 @@ module _ (s : List ℕ) (z : Bytes s) (a : ℕ) (x : DefinedFields) (o : defined
   pub end_there : defined_end s a ≡ a + length (defined_format.enc x)
   unfolding defined
   end_there =
-      sym (defined_ends s (a + length (defined_format.enc x)) a _ ((defined_format.law (record {})).sound s _ a x o l (omega arith)))
+      sym (defined_ends s (a + length (defined_format.enc x)) a _ ((defined_format.law laws (record {})).sound s _ a x o l (omega arith)))
 
 -- ---- the whole body
 -- the code's promises name the body without the names of its values; its walk is the same

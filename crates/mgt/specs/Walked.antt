@@ -1,4 +1,4 @@
--- The body of an MGT part by part, shut, for proofs: the walk that the code is held to is that of Format.antt (law `same-walk`).
+-- The body of an MGT part by part, shut, for proofs: the walk that the code is held to is that of Format.antt (law `same_walk`).
 use Rattle.format.specs.Formats.{Format, Filling, seq, exact}
 use Rattle.format.specs.Values.{One}
 use Rattle.format.specs.Told.{counted16}

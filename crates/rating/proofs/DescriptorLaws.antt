@@ -11,6 +11,7 @@ use Rattle.bytes_at.specs.declared.Walk.TheVariants.{To}
 use Rattle.bytes_at.specs.Fields.{byte_at}
 use Rattle.bytes_at.specs.Walks.{many}
 use Rattle.bytes_at.proofs.WalkLaws.{to_is, then_to, then_inv, skipped, ended}
+use Rattle.format.proofs.KeptLaws.{laws}
 use Rattle.format.specs.Lawful.{unto}
 use Rattle.format.specs.Formats.{walks, walks_all}
 use Rattle.format.proofs.FieldLaws.{fields_end}
@@ -37,7 +38,7 @@ size_taken judged s end at e w =
     let t = fields_end 8 (8 ∷ []) 2 refl at end p.0 p.1.0 in
     let q = then_inv _ _ e p.1.1 in
     let u = skipped 1 p.0 (byte_at s (p.0 - 1)) end q.0 q.1.0 in
-    let v = ((content judged).law (byte_at s (p.0 - 2))).whole s q.0 p.0 e q.1.1 in
+    let v = ((content judged).law laws (byte_at s (p.0 - 2))).whole s q.0 p.0 e q.1.1 in
     let n : p.0 - 1 ≡ at + 1 = omega arith in
     (omega (arith, ap (byte_at s) n), omega arith)
 

@@ -11,6 +11,7 @@ use Rattle.bytes_at.specs.Fields.{byte_at}
 use Rattle.logic.specs.Choices.{if_lt, if_eq}
 use Rattle.bytes_at.specs.Walks.{fields_to, many}
 use Rattle.bytes_at.proofs.WalkLaws.{to_is, then_to, then_inv, skipped}
+use Rattle.format.proofs.KeptLaws.{laws}
 use Rattle.format.specs.Formats.{walks, walks_all}
 use Rattle.format.proofs.FieldLaws.{fields_end}
 use Rattle.format.proofs.RepeatLaws.{run_fits}
@@ -165,7 +166,7 @@ region_taken s end at e w =
     let v = fields_end 8 [] 1 refl (at + rated_size s at) end u.0 u.1.0 in
     let x = then_inv _ _ e u.1.1 in
     let y = skipped 1 u.0 (byte_at s (u.0 - 1)) end x.0 x.1.0 in
-    let z = (text.law (record {})).whole s x.0 u.0 e x.1.1 in
+    let z = (text.law laws (record {})).whole s x.0 u.0 e x.1.1 in
     let m : byte_at s (u.0 - 1) ≡ byte_at s (at + rated_size s at) = ap (byte_at s) (omega arith) in
     (omega arith, omega arith)
 

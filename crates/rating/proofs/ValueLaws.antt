@@ -6,6 +6,7 @@ use native.Mathlib.Omega.{arith}
 use lib.ListN.{length, length-append}
 use Rattle.bytes_at.specs.Fields.{byte_at}
 use Rattle.bytes_at.proofs.BitLaws.{byte_bits_lem, all_at, low_at}
+use Rattle.format.proofs.KeptLaws.{laws}
 use Rattle.format.specs.Lawful.{Lies}
 use Rattle.format.specs.Repeats.{Bytes, encs}
 use Rattle.format.specs.Formats.{last_byte, last_but_one, both, through, filled_by, times}
@@ -70,7 +71,7 @@ module _ (s : List ℕ) (z : Bytes s) (p : ℕ) (g : region.Val) (o : region.Ok 
   pub region_size_lem : region_size s p ≡ length (region.enc g)
   region_size_lem =
       let e = p + length (region.enc g) in
-      omega (arith, (region_taken s e p e ((region.law (record {})).sound s e p g o l (omega arith))).0)
+      omega (arith, (region_taken s e p e ((region.law laws (record {})).sound s e p g o l (omega arith))).0)
 
 -- ---- descriptors
 module _ (judged : ℕ) (s : List ℕ) (z : Bytes s) (a : ℕ) (d : (descriptor judged).Val) (o : (descriptor judged).Ok (record {}) d)
@@ -78,7 +79,7 @@ module _ (judged : ℕ) (s : List ℕ) (z : Bytes s) (a : ℕ) (d : (descriptor 
   pub descriptor_size_lem : descriptor_size s a ≡ length ((descriptor judged).enc d)
   descriptor_size_lem =
       let e = a + length ((descriptor judged).enc d) in
-      omega (arith, (size_taken judged s e a e (((descriptor judged).law (record {})).sound s e a d o l (omega arith))).0)
+      omega (arith, (size_taken judged s e a e (((descriptor judged).law laws (record {})).sound s e a d o l (omega arith))).0)
 
   -- its tag, its length, and its content
   pub descriptor_values : unfold descriptor content advisory in (((byte_at s a ≡ d.tag) × (byte_at s (a + 1) ≡ length ((content judged).enc d.content)))

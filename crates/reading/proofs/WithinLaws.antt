@@ -10,7 +10,7 @@ use Rattle.part.specs.declared.Part.{Part}
 use Rattle.bytes_at.specs.Inner.{Stands}
 use Rattle.refusal.specs.Outcomes.{resulted}
 use Rattle.kind.specs.declared.Kind.TheVariants.{Ett}
-use Rattle.kind.specs.Kinds.{limitsOf, onlyOf}
+use Rattle.kind.specs.Kinds.{limits_of, only_of}
 use Rattle.format.specs.Formats.{walks}
 use Rattle.part.specs.Parts.{end_of, bytes_in}
 use Rattle.rating.specs.Values.{Descriptor}
@@ -62,11 +62,11 @@ module _ (s : List ℕ) (i a : ℕ) (found : spot_of Event s i ≡ resulted a) w
       all_there s t.start t.length (omega (arith, l, text_within s region (end_of (descriptors_at s a)) (descriptors_at s a).start t f))
 
 -- and the text of an ETT
-pub text_whole : (s : List ℕ) (h : Header) (extension : ℕ) → section_by (onlyOf Ett) s ≡ resulted h
-    → length (bytes_in s (fields_at s extension (limitsOf Ett).body (length s - 4)).text)
-    ≡ (fields_at s extension (limitsOf Ett).body (length s - 4)).text.length
+pub text_whole : (s : List ℕ) (h : Header) (extension : ℕ) → section_by (only_of Ett) s ≡ resulted h
+    → length (bytes_in s (fields_at s extension (limits_of Ett).body (length s - 4)).text)
+    ≡ (fields_at s extension (limits_of Ett).body (length s - 4)).text.length
 unfolding fields_at body_of
 text_whole s h extension e =
     let w = (section_sound Ett s h e).1 in
-    let t = (body_text s (length s - 4) (limitsOf Ett).body w.0 w.1).0 in
+    let t = (body_text s (length s - 4) (limits_of Ett).body w.0 w.1).0 in
     all_there s 13 (length s - 4 - 13) (omega arith)

@@ -3,7 +3,7 @@ use Rattle.std.specs.Prelude.{ℕ, Bool, List, length}
 use Rattle.part.specs.declared.Part.{Part}
 use Rattle.refusal.specs.Numbers.{number_of}
 use Rattle.refusal.specs.Outcomes.{Outcome, refused, resulted, after, or_refuse, or_none}
-use Rattle.kind.specs.Kinds.{limitsOf, onlyOf}
+use Rattle.kind.specs.Kinds.{limits_of, only_of}
 use Rattle.section.specs.Sections.{section_by}
 use Rattle.kind.specs.declared.Kind.TheVariants.{Eit}
 use Rattle.format.specs.Formats.{walks_all}
@@ -34,7 +34,7 @@ fields_outcome (Refused k) = refused (number_of k)
 fields_outcome (Are f) = resulted f
 
 unfoldable pub fields_of : List ℕ → Outcome Table
-fields_of s = after (section_by (onlyOf Eit) s) (λ h. resulted (fields_at s h.extension (limitsOf Eit).body))
+fields_of s = after (section_by (only_of Eit) s) (λ h. resulted (fields_at s h.extension (limits_of Eit).body))
 
 -- ---- event i
 abbrev pub entry_outcome : EntryAnswer → Outcome Event

@@ -2,7 +2,7 @@
 use Rattle.std.specs.Prelude.{ℕ, ◌-◌, length, List}
 use Rattle.refusal.specs.Numbers.{number_of}
 use Rattle.refusal.specs.Outcomes.{Outcome, refused, resulted, after}
-use Rattle.kind.specs.Kinds.{limitsOf, onlyOf}
+use Rattle.kind.specs.Kinds.{limits_of, only_of}
 use Rattle.section.specs.Sections.{section_by}
 use Rattle.kind.specs.declared.Kind.TheVariants.{Ett}
 use Rattle.ett.specs.declared.table.Table.{Table}
@@ -15,4 +15,4 @@ fields_outcome (Refused k) = refused (number_of k)
 fields_outcome (Are f) = resulted f
 
 unfoldable pub fields_of : List ℕ → Outcome Table
-fields_of s = after (section_by (onlyOf Ett) s) (λ h. resulted (fields_at s h.extension (limitsOf Ett).body (length s - 4)))
+fields_of s = after (section_by (only_of Ett) s) (λ h. resulted (fields_at s h.extension (limits_of Ett).body (length s - 4)))

@@ -2,7 +2,7 @@
 use Rattle.std.specs.Prelude.{ℕ, List}
 use Rattle.refusal.specs.Numbers.{number_of}
 use Rattle.refusal.specs.Outcomes.{Outcome, refused, resulted, after}
-use Rattle.kind.specs.Kinds.{limitsOf, onlyOf}
+use Rattle.kind.specs.Kinds.{limits_of, only_of}
 use Rattle.section.specs.Sections.{section_by}
 use Rattle.kind.specs.declared.Kind.TheVariants.{Mgt}
 use Rattle.mgt.specs.declared.table.Table.{Table}
@@ -22,10 +22,10 @@ fields_outcome (Refused k) = refused (number_of k)
 fields_outcome (Are f) = resulted f
 
 unfoldable pub fields_in : List ℕ → Outcome Table
-fields_in s = after (rest_in entries.Table s) (λ b. resulted (fields_at s (limitsOf Mgt).body b))
+fields_in s = after (rest_in entries.Table s) (λ b. resulted (fields_at s (limits_of Mgt).body b))
 
 unfoldable pub fields_of : List ℕ → Outcome Table
-fields_of s = after (section_by (onlyOf Mgt) s) (λ h. fields_in s)
+fields_of s = after (section_by (only_of Mgt) s) (λ h. fields_in s)
 
 -- ---- entry i
 abbrev pub entry_outcome : EntryAnswer → Outcome Defined

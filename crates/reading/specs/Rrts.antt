@@ -2,7 +2,7 @@
 use Rattle.std.specs.Prelude.{ℕ, List}
 use Rattle.refusal.specs.Numbers.{number_of}
 use Rattle.refusal.specs.Outcomes.{Outcome, refused, resulted, after}
-use Rattle.kind.specs.Kinds.{limitsOf, onlyOf}
+use Rattle.kind.specs.Kinds.{limits_of, only_of}
 use Rattle.section.specs.Sections.{section_by}
 use Rattle.kind.specs.declared.Kind.TheVariants.{Rrt}
 use Rattle.rrt.specs.declared.table.Table.{Table}
@@ -24,10 +24,10 @@ fields_outcome (Refused k) = refused (number_of k)
 fields_outcome (Are f) = resulted f
 
 unfoldable pub fields_in : ℕ → List ℕ → Outcome Table
-fields_in extension s = after (rest_in entries.Dimension s) (λ b. resulted (fields_at s extension (limitsOf Rrt).body b))
+fields_in extension s = after (rest_in entries.Dimension s) (λ b. resulted (fields_at s extension (limits_of Rrt).body b))
 
 unfoldable pub fields_of : List ℕ → Outcome Table
-fields_of s = after (section_by (onlyOf Rrt) s) (λ h. fields_in h.extension s)
+fields_of s = after (section_by (only_of Rrt) s) (λ h. fields_in h.extension s)
 
 -- ---- entry i
 abbrev pub entry_outcome : EntryAnswer → Outcome Dimension

@@ -12,7 +12,7 @@ use Rattle.bytes_at.specs.Walks.{many}
 use Rattle.bytes_at.proofs.WalkLaws.{many_inv, reached}
 use Rattle.refusal.specs.Outcomes.{refused, resulted}
 use Rattle.refusal.proofs.TestLaws.{lets_le, stops_le}
-use Rattle.kind.specs.Kinds.{limitsOf, onlyOf}
+use Rattle.kind.specs.Kinds.{limits_of, only_of}
 use Rattle.format.specs.Formats.{walks}
 use Rattle.format.specs.Repeats.{Bytes}
 use Rattle.strings.specs.Places.{text_end}
@@ -144,13 +144,13 @@ module _ (r : Row) (s l : List ℕ) (w n : ℕ) (wide : w ≡ row_width r) (coun
       (e, rw (← e, ← first) put)
 
 -- ---- what a section that was judged has, before its rows are asked for
-largest_small : (r : Row) → (limitsOf (kind_of_entry (entry_for r))).largest + 3 ≤ 4096
+largest_small : (r : Row) → (limits_of (kind_of_entry (entry_for r))).largest + 3 ≤ 4096
 largest_small Table = omega arith
 largest_small Channel = omega arith
 largest_small Dimension = omega arith
 largest_small Event = omega arith
 
-pub judged_rows : (r : Row) (s : List ℕ) (h : Header) → section_by (onlyOf (kind_of_entry (entry_for r))) s ≡ resulted h
+pub judged_rows : (r : Row) (s : List ℕ) (h : Header) → section_by (only_of (kind_of_entry (entry_for r))) s ≡ resulted h
     → Begins (entry_for r) s × Entries r s (entry_count (entry_for r) s) (first_entry (entry_for r) s)
 unfolding entry_walk
 judged_rows r s h judged =

@@ -3,7 +3,7 @@ use Rattle.std.specs.Prelude.{ℕ, zero, suc, ◌*◌, List, [], ◌++◌, leb}
 use Rattle.std.proofs.lemmas.List.Edits.{sets}
 use Rattle.refusal.specs.Numbers.{number_of}
 use Rattle.refusal.specs.Outcomes.{Outcome, refused, resulted, after, or_refuse}
-use Rattle.kind.specs.Kinds.{onlyOf}
+use Rattle.kind.specs.Kinds.{only_of}
 use Rattle.mgt.specs.Fields.{defined_row, defined_end}
 use Rattle.channel.specs.Fields.{channel_row, channel_end}
 use Rattle.rrt.specs.Fields.{dimension_row, dimension_end}
@@ -61,7 +61,7 @@ unfoldable pub rows_in : Row → List ℕ → ℕ → Outcome ℕ
 rows_in r s room = room_for_rows (row_width r) (entry_count (entry_for r) s) room
 
 unfoldable pub rows_of : Row → List ℕ → ℕ → Outcome ℕ
-rows_of r s room = after (section_by (onlyOf (kind_of_entry (entry_for r))) s) (λ h. rows_in r s room)
+rows_of r s room = after (section_by (only_of (kind_of_entry (entry_for r))) s) (λ h. rows_in r s room)
 
 -- the lent list after its rows were asked for: they are stored from its beginning on, and nothing else changes
 unfoldable pub with_rows : Row → List ℕ → Outcome ℕ → List ℕ → List ℕ

@@ -3,7 +3,7 @@ use Rattle.std.specs.Prelude.{ℕ, zero, suc, ◌+◌, List, [], ◌++◌}
 use Rattle.std.proofs.lemmas.List.Edits.{sets}
 use Rattle.refusal.specs.Outcomes.{Outcome, refused, resulted, after}
 use Rattle.kind.specs.declared.Kind.TheVariants.{Rrt}
-use Rattle.kind.specs.Kinds.{onlyOf}
+use Rattle.kind.specs.Kinds.{only_of}
 use Rattle.rrt.specs.Fields.{values_at, first_value_at, value_end, dimension_end, value_row}
 use Rattle.section.specs.Sections.{section_by}
 use Rattle.entry.specs.declared.Entry.TheVariants.{Dimension}
@@ -30,7 +30,7 @@ unfoldable pub value_rows_in : List ℕ → ℕ → Outcome ℕ
 value_rows_in s room = room_for_rows 6 (value_count s (entry_count Dimension s) (first_entry Dimension s)) room
 
 unfoldable pub value_rows_of : List ℕ → ℕ → Outcome ℕ
-value_rows_of s room = after (section_by (onlyOf Rrt) s) (λ h. value_rows_in s room)
+value_rows_of s room = after (section_by (only_of Rrt) s) (λ h. value_rows_in s room)
 
 -- the lent list after its rows were asked for: they are stored from its beginning on, and nothing else changes
 unfoldable pub with_value_rows : List ℕ → Outcome ℕ → List ℕ → List ℕ

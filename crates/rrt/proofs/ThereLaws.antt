@@ -4,6 +4,7 @@ use mathlib.Core.Path.{◌≡◌, refl, sym, ap, ◌∙◌}
 use mathlib.Core.List.{List, [], ◌∷◌, ◌++◌}
 use native.Mathlib.Omega.{arith}
 use lib.ListN.{length, length-append}
+use Rattle.format.proofs.KeptLaws.{laws}
 use Rattle.format.specs.Lawful.{Lies}
 use Rattle.format.specs.Repeats.{Bytes, encs}
 use Rattle.format.specs.Laws.OfBytes.{lies_at, lies_split}
@@ -74,7 +75,7 @@ module _ (s : List ℕ) (z : Bytes s) where
     pub value_end_there : value_end s a ≡ a + length (value_format.enc v)
     unfolding value
     value_end_there =
-        sym (value_ends s (a + length (value_format.enc v)) a _ ((value_format.law (record {})).sound s (a + length (value_format.enc v)) a v o l (omega arith)))
+        sym (value_ends s (a + length (value_format.enc v)) a _ ((value_format.law laws (record {})).sound s (a + length (value_format.enc v)) a v o l (omega arith)))
 
     pub short_lies : text.Ok (record {}) v.short × Lies (text.enc v.short) s (texts_for a v).short_text.start
     short_lies = (o.0.1.1.1, short_placed.lies)
@@ -111,7 +112,7 @@ module _ (s : List ℕ) (z : Bytes s) where
     pub end_there : dimension_end s d ≡ d + length (dimension_format.enc x)
     unfolding dimension
     end_there =
-        sym (dimension_ends s (d + length (dimension_format.enc x)) d _ ((dimension_format.law (record {})).sound s (d + length (dimension_format.enc x)) d x o l (omega arith)))
+        sym (dimension_ends s (d + length (dimension_format.enc x)) d _ ((dimension_format.law laws (record {})).sound s (d + length (dimension_format.enc x)) d x o l (omega arith)))
 
     pub dimension_name_lies : text.Ok (record {}) x.name × Lies (text.enc x.name) s (dimension_for d x).name.start
     dimension_name_lies = (o.0.1.1.1, name_placed.lies)

@@ -11,6 +11,7 @@ use Rattle.bytes_at.specs.declared.Walk.TheVariants.{To, Bad}
 use Rattle.bytes_at.specs.Fields.{byte_at}
 use Rattle.bytes_at.specs.Walks.{fields_to, then, many}
 use Rattle.bytes_at.proofs.WalkLaws.{to_is, never, then_inv, ended}
+use Rattle.format.proofs.KeptLaws.{laws}
 use Rattle.format.specs.Formats.{Format, walks, walks_all}
 use Rattle.format.specs.Values.{One}
 use Rattle.format.specs.Formats.{one_or_more}
@@ -86,7 +87,7 @@ module _ (s : List ℕ) (end d b : ℕ) (w : walks dimension s end d ≡ To b) w
   pub dimension_forward : (d ≤ b) × (b ≤ end)
   dimension_forward =
       let t = text_inside s end d (text_end s d) name_walked in
-      (dimension.law (record {})).within s end d b (omega (arith, t)) w
+      (dimension.law laws (record {})).within s end d b (omega (arith, t)) w
 
   pub dimension_ends : b ≡ dimension_end s d
   unfolding dimension_end

@@ -11,7 +11,8 @@ use Rattle.checksum.specs.Register.{sealed}
 use Rattle.checksum.proofs.Sealing.{resealed}
 use Rattle.refusal.specs.Outcomes.{resulted}
 use Rattle.kind.specs.declared.Kind.{Kind}
-use Rattle.kind.specs.Kinds.{limitsOf, tableIdOf, onlyOf}
+use Rattle.kind.specs.Kinds.{limits_of, table_id_of, only_of}
+use Rattle.format.proofs.KeptLaws.{laws}
 use Rattle.format.specs.Repeats.{Bytes}
 use Rattle.format.specs.Laws.OfBytes.{part_length}
 use Rattle.format.specs.Laws.OfValues.{vals_fit, vals_number, bytes_part}
@@ -37,9 +38,9 @@ length_is b l n v e f g = omega arith
 both_equal : {a b c d : ℕ} → a ≡ c → b ≡ d → a ≤ b → c ≤ d
 both_equal e f h = omega arith
 
-module _ (k : Kind) (s : List ℕ) (z : Bytes s) (h : Header) (q : section_by (onlyOf k) s ≡ resulted h) where
-  passed : (table_id s ≡ tableIdOf k) × Passed k s h
-  passed = header_passed k s h (section_header (onlyOf k) s h q)
+module _ (k : Kind) (s : List ℕ) (z : Bytes s) (h : Header) (q : section_by (only_of k) s ≡ resulted h) where
+  passed : (table_id s ≡ table_id_of k) × Passed k s h
+  passed = header_passed k s h (section_header (only_of k) s h q)
 
   room : 13 ≤ length s
   room = let p = passed.1 in omega (arith, (known k).smallest, p.smallest, p.size)
@@ -48,8 +49,8 @@ module _ (k : Kind) (s : List ℕ) (z : Bytes s) (h : Header) (q : section_by (o
   body_walk_lem : (body_format k).walk (record {}) s (length s - 4) 9 ≡ To (length s - 4)
   body_walk_lem =
       let w = (section_sound k s h q).1 in
-      let v = sym (ap (λ b. (body_format k).walk (record {}) s (length s - 4) b) (known k).body) ∙ sym (same_walk k s (length s - 4) (limitsOf k).body) ∙ w.1 in
-      v ∙ ap To (((body_format k).law (record {})).whole s (length s - 4) 9 w.0 v)
+      let v = sym (ap (λ b. (body_format k).walk (record {}) s (length s - 4) b) (known k).body) ∙ sym (same_walk k s (length s - 4) (limits_of k).body) ∙ w.1 in
+      v ∙ ap To (((body_format k).law laws (record {})).whole s (length s - 4) 9 w.0 v)
 
   body_value : (x : (body_format k).Val) × ((body_format k).Ok (record {}) x × (between s 9 (length s - 4) ≡ (body_format k).enc x))
   body_value = let r = room in (accepted_all s (length s - 4) 9 (omega arith) (omega arith) z (body_format k) (record {})).0 body_walk_lem
@@ -83,7 +84,7 @@ module _ (k : Kind) (s : List ℕ) (z : Bytes s) (h : Header) (q : section_by (o
       let a = header_bits s z in
       let f = vals_fit header_head s 0 0 in
       let p = passed.1 in
-      let e0 : tableIdOf k ≡ (vals_at header_head s 0 0).0 = sym passed.0 ∙ a.id in
+      let e0 : table_id_of k ≡ (vals_at header_head s 0 0).0 = sym passed.0 ∙ a.id in
       let e1 = bit_one (syntax_indicator s) _ p.syntax_one a.syntax f.1.0 in
       let e2 = bit_one (private_indicator s) _ p.private_one a.private f.1.1.0 in
       let e3 = length_same in
@@ -130,8 +131,8 @@ module _ (k : Kind) (s : List ℕ) (z : Bytes s) (h : Header) (q : section_by (o
 
 -- what is accepted, of one kind
 pub exactly : (k : Kind) (s : List ℕ) → Bytes s → (h : Header)
-    → (section_by (onlyOf k) s ≡ resulted h) ↔ ((y : Section k) × (WellFormed k y × ((s ≡ encode y) × (h ≡ header_of y))))
+    → (section_by (only_of k) s ≡ resulted h) ↔ ((y : Section k) × (WellFormed k y × ((s ≡ encode y) × (h ≡ header_of y))))
 exactly k s z h = (
   (λ q. (decode k s z h q, (well_formed k s z h q, (bytes_same k s z h q, header_same k s z h q)))),
-  (λ u. ap (section_by (onlyOf k)) u.1.1.0 ∙ accepts k u.0 u.1.0 ∙ ap resulted (sym u.1.1.1)),
+  (λ u. ap (section_by (only_of k)) u.1.1.0 ∙ accepts k u.0 u.1.0 ∙ ap resulted (sym u.1.1.1)),
 )

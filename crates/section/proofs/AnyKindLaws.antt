@@ -17,7 +17,7 @@ use Rattle.kind.specs.declared.Kind.{Kind}
 use Rattle.kind.specs.declared.Kind.TheVariants.{Mgt, Tvct, Rrt, Eit, Ett}
 use Rattle.kind.specs.declared.Found.{Found}
 use Rattle.kind.specs.declared.Found.TheVariants.{Is, Nothing}
-use Rattle.kind.specs.Kinds.{tableIdOf, onlyOf, kind_of}
+use Rattle.kind.specs.Kinds.{table_id_of, only_of, kind_of}
 use Rattle.format.specs.Repeats.{Bytes}
 use Rattle.section.specs.declared.header.Header.{Header}
 use Rattle.section.specs.Headers.{table_id, header_by, of_kind}
@@ -27,15 +27,15 @@ use Rattle.section.proofs.SectionLaws.{header_passed, section_header}
 use Rattle.section.proofs.AcceptedLaws.{exactly}
 
 -- ---- the two ways to find a kind agree on its table_id
-step : (t : Bool) (j k : Kind) (id : ℕ) (rest : Found) → (t ≡ true → id ≡ tableIdOf j) → (rest ≡ Is k → id ≡ tableIdOf k)
-    → pick t (Is j) rest ≡ Is k → id ≡ tableIdOf k
-step true j k id rest f g e = let q : j ≡ k = cc in f refl ∙ ap tableIdOf q
+step : (t : Bool) (j k : Kind) (id : ℕ) (rest : Found) → (t ≡ true → id ≡ table_id_of j) → (rest ≡ Is k → id ≡ table_id_of k)
+    → pick t (Is j) rest ≡ Is k → id ≡ table_id_of k
+step true j k id rest f g e = let q : j ≡ k = cc in f refl ∙ ap table_id_of q
 step false j k id rest f g e = g e
 
-nothing : (id : ℕ) (k : Kind) → Nothing ≡ Is k → id ≡ tableIdOf k
+nothing : (id : ℕ) (k : Kind) → Nothing ≡ Is k → id ≡ table_id_of k
 nothing id k e = let z : ◌≡◌ {A = ℕ} 0 1 = cc in absurd (omega arith)
 
-found_id : (id : ℕ) (k : Kind) → kind_of id ≡ Is k → id ≡ tableIdOf k
+found_id : (id : ℕ) (k : Kind) → kind_of id ≡ Is k → id ≡ table_id_of k
 unfolding kind_of if_eq
 found_id id k e =
     step _ Mgt k id _ (eqb-true _ _)
@@ -43,7 +43,7 @@ found_id id k e =
     (step _ Rrt k id _ (eqb-true _ _) (step _ Eit k id _ (eqb-true _ _) (step _ Ett k id Nothing (eqb-true _ _) (nothing id k)))))
     e
 
-id_found : (k : Kind) → kind_of (tableIdOf k) ≡ Is k
+id_found : (k : Kind) → kind_of (table_id_of k) ≡ Is k
 unfolding kind_of if_eq
 id_found Mgt = refl
 id_found Tvct = refl
@@ -51,9 +51,9 @@ id_found Rrt = refl
 id_found Eit = refl
 id_found Ett = refl
 
-agree : (s : List ℕ) (k : Kind) → table_id s ≡ tableIdOf k → kind_of (table_id s) ≡ onlyOf k (table_id s)
-unfolding onlyOf
-agree s k e = ap kind_of e ∙ id_found k ∙ eq_yes (table_id s) (tableIdOf k) (Is k) Nothing e refl
+agree : (s : List ℕ) (k : Kind) → table_id s ≡ table_id_of k → kind_of (table_id s) ≡ only_of k (table_id s)
+unfolding only_of
+agree s k e = ap kind_of e ∙ id_found k ∙ eq_yes (table_id s) (table_id_of k) (Is k) Nothing e refl
 
 by : (f g : ℕ → Found) (s : List ℕ) → f (table_id s) ≡ g (table_id s) → section_by f s ≡ section_by g s
 unfolding section_by header_by
@@ -64,7 +64,7 @@ unfolding of_kind
 some_kind Nothing s h e = not_both 2 h e
 some_kind (Is k) s h e = (k, refl)
 
-read_kind : (s : List ℕ) (h : Header) → header_by kind_of s ≡ resulted h → (k : Kind) × (table_id s ≡ tableIdOf k)
+read_kind : (s : List ℕ) (h : Header) → header_by kind_of s ≡ resulted h → (k : Kind) × (table_id s ≡ table_id_of k)
 unfolding header_by
 read_kind s h e = let f = some_kind (kind_of (table_id s)) s h (passed_le 1 3 (length s) _ h e).1 in (f.0, found_id (table_id s) f.0 f.1)
 
@@ -74,9 +74,9 @@ pub exactly_any : (s : List ℕ) → Bytes s → (h : Header)
 exactly_any s z h = (
   (λ q.
       let f = read_kind s h (section_header kind_of s h q) in
-      (f.0, (exactly f.0 s z h).0 (sym (by kind_of (onlyOf f.0) s (agree s f.0 f.1)) ∙ q))),
+      (f.0, (exactly f.0 s z h).0 (sym (by kind_of (only_of f.0) s (agree s f.0 f.1)) ∙ q))),
   (λ u.
       let q = (exactly u.0 s z h).1 u.1 in
-      let i = (header_passed u.0 s h (section_header (onlyOf u.0) s h q)).0 in
-      by kind_of (onlyOf u.0) s (agree s u.0 i) ∙ q),
+      let i = (header_passed u.0 s h (section_header (only_of u.0) s h q)).0 in
+      by kind_of (only_of u.0) s (agree s u.0 i) ∙ q),
 )

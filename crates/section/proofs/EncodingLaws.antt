@@ -12,7 +12,8 @@ use Rattle.checksum.proofs.Sealing.{sealed_sound}
 use Rattle.refusal.specs.Outcomes.{Outcome, resulted, after}
 use Rattle.bytes_at.specs.Walks.{standing}
 use Rattle.kind.specs.declared.Kind.{Kind}
-use Rattle.kind.specs.Kinds.{limitsOf, onlyOf}
+use Rattle.kind.specs.Kinds.{limits_of, only_of}
+use Rattle.format.proofs.KeptLaws.{laws}
 use Rattle.format.specs.Lawful.{Lies}
 use Rattle.format.specs.Repeats.{Bytes}
 use Rattle.format.specs.Laws.OfBytes.{bytes_append, same_front}
@@ -67,7 +68,7 @@ module _ (k : Kind) (y : Section k) (o : WellFormed k y) where
   head_lies = ap (take (length (bytes_of 9 (number header_head (head_of k y))))) bytes ∙ take_at (bytes_of 9 (number header_head (head_of k y))) _ _ refl
 
   -- the body, where the table of kinds has it begin
-  pub body_lies : Lies (body_bytes y) (encode y) (limitsOf k).body
+  pub body_lies : Lies (body_bytes y) (encode y) (limits_of k).body
   body_lies =
       ap (λ a. take (length (body_bytes y)) (drop a (encode y))) (known k).body
       ∙ ap (λ s. take (length (body_bytes y)) (drop 9 s)) bytes
@@ -75,7 +76,7 @@ module _ (k : Kind) (y : Section k) (o : WellFormed k y) where
       ∙ take_at (body_bytes y) _ _ refl
 
   -- and it takes all up to the checksum
-  pub body_ends : length (encode y) - 4 ≡ (limitsOf k).body + length (body_bytes y)
+  pub body_ends : length (encode y) - 4 ≡ (limits_of k).body + length (body_bytes y)
   body_ends = omega (arith, size, (known k).body)
 
   pub vals : vals_at header_head (encode y) 0 0 ≡ head_of k y
@@ -92,13 +93,13 @@ four_bytes_lem w (suc (suc (suc (suc i)))) = omega arith
 
 pub encode_bytes : (k : Kind) (y : Section k) → WellFormed k y → Bytes (encode y)
 encode_bytes k y o =
-    let b = bytes_append (body_bytes y) (four_bytes (register (unsealed k y.header (body_bytes y)))) (((body_format k).law (record {})).bytes y.body o.body) (four_bytes_lem _) in
+    let b = bytes_append (body_bytes y) (four_bytes (register (unsealed k y.header (body_bytes y)))) (((body_format k).law laws (record {})).bytes y.body o.body) (four_bytes_lem _) in
     let h = bytes_bytes 9 (number header_head (head_of k y)) (number_lt header_head (head_of k y) (fits k y o)) in
     subst (λ l. Bytes l) (sym (bytes k y o)) (bytes_append (bytes_of 9 (number header_head (head_of k y))) _ h b)
 
 -- ---- it is accepted
-stands : (k : Kind) (s : List ℕ) (h : Header) (e : ℕ) → header_by (onlyOf k) s ≡ resulted h → body_walk h.kind s ≡ To e
-    → section_by (onlyOf k) s ≡ resulted h
+stands : (k : Kind) (s : List ℕ) (h : Header) (e : ℕ) → header_by (only_of k) s ≡ resulted h → body_walk h.kind s ≡ To e
+    → section_by (only_of k) s ≡ resulted h
 unfolding section_by body_test after standing
 stands k s h e p q = ap (λ (o : Outcome Header). after o (λ g. body_test g s)) p ∙ ap (λ (w : Walk). after (standing w) (λ x. resulted h)) q
 
@@ -135,10 +136,10 @@ module _ (k : Kind) (y : Section k) (o : WellFormed k y) where
 
   walk_stands : body_walk k (encode y) ≡ To (length (encode y) - 4)
   walk_stands =
-      same_walk k (encode y) (length (encode y) - 4) (limitsOf k).body
-      ∙ ((body_format k).law (record {})).sound (encode y) (length (encode y) - 4) (limitsOf k).body y.body o.body (body_lies k y o) (body_ends k y o)
+      same_walk k (encode y) (length (encode y) - 4) (limits_of k).body
+      ∙ ((body_format k).law laws (record {})).sound (encode y) (length (encode y) - 4) (limits_of k).body y.body o.body (body_lies k y o) (body_ends k y o)
 
-  pub accepts : section_by (onlyOf k) (encode y) ≡ resulted (header_of y)
+  pub accepts : section_by (only_of k) (encode y) ≡ resulted (header_of y)
   accepts =
       let h = header_passes k (encode y) (header_of y) (omega (arith, size k y o)) are.id passed in
       stands k (encode y) (header_of y) _ h walk_stands
@@ -158,7 +159,7 @@ module _ (k : Kind) (x y : Section k) (o : WellFormed k x) (r : WellFormed k y) 
       same_front (bytes_of 9 hx) (bytes_of 9 hy) (body_bytes x ++ fx) (body_bytes y ++ fy)
       (bytes_length 9 hx ∙ sym (bytes_length 9 hy)) (sym (bytes k x o) ∙ e ∙ bytes k y r) in
       let n : length (body_bytes x) ≡ length (body_bytes y) = omega (arith, size k x o, size k y r, ap length e) in
-      ((body_format k).law (record {})).unique x.body y.body o.body r.body
+      ((body_format k).law laws (record {})).unique x.body y.body o.body r.body
       (same_front (body_bytes x) (body_bytes y) fx fy n p.1).0
 
   pub once : x ≡ y

@@ -6,7 +6,7 @@ use native.Mathlib.Omega.{arith}
 use Rattle.bytes_at.specs.Fields.{byte_at}
 use Rattle.kind.specs.declared.Kind.{Kind}
 use Rattle.kind.specs.declared.Kind.TheVariants.{Mgt, Tvct, Rrt, Eit, Ett}
-use Rattle.kind.specs.Kinds.{limitsOf, tableIdOf}
+use Rattle.kind.specs.Kinds.{limits_of, table_id_of}
 use Rattle.format.specs.Formats.{walks_all}
 use Rattle.mgt.proofs.ThereLaws as mgts
 use Rattle.tvct.proofs.ThereLaws as tvcts
@@ -16,7 +16,7 @@ use Rattle.ett.proofs.FieldLaws as etts
 use Rattle.section.specs.Bodies.{body_format}
 use Rattle.section.specs.Walked.{body_of}
 
-pub start_small : (k : Kind) → (limitsOf k).body < 4096
+pub start_small : (k : Kind) → (limits_of k).body < 4096
 start_small Mgt = omega arith
 start_small Tvct = omega arith
 start_small Rrt = omega arith
@@ -24,7 +24,7 @@ start_small Eit = omega arith
 start_small Ett = omega arith
 
 -- a section of the smallest length has room before it
-pub start_fits : (k : Kind) → (limitsOf k).body ≤ (limitsOf k).smallest
+pub start_fits : (k : Kind) → (limits_of k).body ≤ (limits_of k).smallest
 start_fits Mgt = omega arith
 start_fits Tvct = omega arith
 start_fits Rrt = omega arith
@@ -33,12 +33,12 @@ start_fits Ett = omega arith
 
 -- what the encoding of a section asks of the table
 pub record Known (k : Kind) : Type 0 where
-  pub smallest : 10 ≤ (limitsOf k).smallest
-  pub largest : (limitsOf k).largest < 4096
-  pub last : (limitsOf k).last < 256
-  pub body : (limitsOf k).body ≡ 9
-  pub zero_byte : (s : List ℕ) → byte_at s (limitsOf k).zero_byte ≡ byte_at s 8
-  pub id : tableIdOf k < 256
+  pub smallest : 10 ≤ (limits_of k).smallest
+  pub largest : (limits_of k).largest < 4096
+  pub last : (limits_of k).last < 256
+  pub body : (limits_of k).body ≡ 9
+  pub zero_byte : (s : List ℕ) → byte_at s (limits_of k).zero_byte ≡ byte_at s 8
+  pub id : table_id_of k < 256
 
 pub known : (k : Kind) → Known k
 known Mgt = record { smallest = omega arith; largest = omega arith; last = omega arith; body = refl; zero_byte = λ s. refl; id = omega arith }

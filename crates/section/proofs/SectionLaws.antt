@@ -1,5 +1,5 @@
 -- What is known of a section that was judged sound.
-use Prim.Native.Nat.{ℕ, ◌+◌, ◌-◌, ◌≤◌}
+use Prim.Native.Nat.{ℕ, ◌+◌, ◌≤◌}
 use mathlib.Core.Path.{◌≡◌, refl, sym, ap, ◌∙◌}
 use mathlib.Core.List.{List}
 use lib.ListN.{length}
@@ -20,7 +20,7 @@ use Rattle.checksum.specs.Register.{register}
 use Rattle.kind.specs.declared.Kind.{Kind}
 use Rattle.kind.specs.declared.Found.{Found}
 use Rattle.kind.specs.declared.Found.TheVariants.{Is, Nothing}
-use Rattle.kind.specs.Kinds.{limitsOf, tableIdOf, kind_of, onlyOf}
+use Rattle.kind.specs.Kinds.{limits_of, table_id_of, kind_of, only_of}
 use Rattle.section.specs.declared.header.Header.{Header}
 use Rattle.section.specs.Headers.{table_id, syntax_indicator, private_indicator, section_length, section_number, last_section_number, header_in, header_by, of_kind, length_tests, checksum_test, number_tests}
 use Rattle.section.proofs.TestLaws.{long_enough, lengths_pass, numbers_pass}
@@ -31,13 +31,13 @@ use Rattle.section.specs.Answers.{by_walk, body_verdict, with_body, verdict_by, 
 pub record Passed (k : Kind) (s : List ℕ) (h : Header) : Type 0 where
   pub syntax_one : syntax_indicator s ≡ 0 → ⊥
   pub private_one : private_indicator s ≡ 0 → ⊥
-  pub smallest : (limitsOf k).smallest ≤ section_length s
-  pub largest : section_length s ≤ (limitsOf k).largest
+  pub smallest : (limits_of k).smallest ≤ section_length s
+  pub largest : section_length s ≤ (limits_of k).largest
   pub size : length s ≡ section_length s + 3
   pub register_zero : register s ≡ 0
-  pub byte_zero : byte_at s (limitsOf k).zero_byte ≡ 0
+  pub byte_zero : byte_at s (limits_of k).zero_byte ≡ 0
   pub number_last : section_number s ≤ last_section_number s
-  pub last_limit : last_section_number s ≤ (limitsOf k).last
+  pub last_limit : last_section_number s ≤ (limits_of k).last
   pub fields : h ≡ header_in k s
 
 same : {A : Type 0} (a b : A) → resulted a ≡ resulted b → b ≡ a
@@ -48,13 +48,13 @@ unfolding of_kind length_tests checksum_test number_tests
 of_kind_lem k s h e =
     let e1 = passed_ne 3 (syntax_indicator s) 0 _ h e in
     let e2 = passed_ne 3 (private_indicator s) 0 _ h e1.1 in
-    let e3 = passed_le 4 (limitsOf k).smallest (section_length s) _ h e2.1 in
-    let e4 = passed_le 4 (section_length s) (limitsOf k).largest _ h e3.1 in
+    let e3 = passed_le 4 (limits_of k).smallest (section_length s) _ h e2.1 in
+    let e4 = passed_le 4 (section_length s) (limits_of k).largest _ h e3.1 in
     let e5 = passed_eq 5 (length s) (section_length s + 3) _ h e4.1 in
     let e6 = passed_eq 6 (register s) 0 _ h e5.1 in
-    let e7 = passed_eq _ (byte_at s (limitsOf k).zero_byte) 0 _ h e6.1 in
+    let e7 = passed_eq _ (byte_at s (limits_of k).zero_byte) 0 _ h e6.1 in
     let e8 = passed_le 8 (section_number s) (last_section_number s) _ h e7.1 in
-    let e9 = passed_le 8 (last_section_number s) (limitsOf k).last _ h e8.1 in
+    let e9 = passed_le 8 (last_section_number s) (limits_of k).last _ h e8.1 in
     record {
       syntax_one = e1.0;
       private_one = e2.0;
@@ -72,8 +72,8 @@ of_kind_lem k s h e =
 pub of_kind_passes : (k : Kind) (s : List ℕ) (h : Header) → Passed k s h → resulted h ≡ of_kind s (Is k)
 unfolding of_kind checksum_test
 of_kind_passes k s h p =
-    let e7 = numbers_pass (limitsOf k) k s p.byte_zero p.number_last p.last_limit (ap resulted p.fields) in
-    lengths_pass (limitsOf k) k s p.syntax_one p.private_one p.smallest p.largest p.size (lets_eq 6 (register s) 0 (number_tests (limitsOf k) k s) p.register_zero e7)
+    let e7 = numbers_pass (limits_of k) k s p.byte_zero p.number_last p.last_limit (ap resulted p.fields) in
+    lengths_pass (limits_of k) k s p.syntax_one p.private_one p.smallest p.largest p.size (lets_eq 6 (register s) 0 (number_tests (limits_of k) k s) p.register_zero e7)
 
 only_kind : (k : Kind) (s : List ℕ) (h : Header) (t : Bool) → of_kind s (pick t (Is k) Nothing) ≡ resulted h
     → (t ≡ true) × (of_kind s (Is k) ≡ resulted h)
@@ -81,18 +81,18 @@ unfolding of_kind
 only_kind k s h true e = (refl, e)
 only_kind k s h false e = not_both 2 h e
 
-pub header_passed : (k : Kind) (s : List ℕ) (h : Header) → header_by (onlyOf k) s ≡ resulted h → (table_id s ≡ tableIdOf k) × Passed k s h
-unfolding header_by onlyOf if_eq
+pub header_passed : (k : Kind) (s : List ℕ) (h : Header) → header_by (only_of k) s ≡ resulted h → (table_id s ≡ table_id_of k) × Passed k s h
+unfolding header_by only_of if_eq
 header_passed k s h e =
-    let p = only_kind k s h (eqb (table_id s) (tableIdOf k)) (passed_le 1 3 (length s) _ h e).1 in
+    let p = only_kind k s h (eqb (table_id s) (table_id_of k)) (passed_le 1 3 (length s) _ h e).1 in
     (eqb-true _ _ p.0, of_kind_lem k s h p.1)
 
-pub header_passes : (k : Kind) (s : List ℕ) (h : Header) → 3 ≤ length s → table_id s ≡ tableIdOf k → Passed k s h
-    → header_by (onlyOf k) s ≡ resulted h
-unfolding onlyOf
+pub header_passes : (k : Kind) (s : List ℕ) (h : Header) → 3 ≤ length s → table_id s ≡ table_id_of k → Passed k s h
+    → header_by (only_of k) s ≡ resulted h
+unfolding only_of
 header_passes k s h l i p =
-    let found = eq_yes (table_id s) (tableIdOf k) (Is k) Nothing {r = Is k} i refl in
-    sym (long_enough (onlyOf k) s l (of_kind_passes k s h p ∙ ap (of_kind s) found))
+    let found = eq_yes (table_id s) (table_id_of k) (Is k) Nothing {r = Is k} i refl in
+    sym (long_enough (only_of k) s l (of_kind_passes k s h p ∙ ap (of_kind s) found))
 
 any_kind : (f : Found) (s : List ℕ) (h : Header) → of_kind s f ≡ resulted h → (k : Kind) × Passed k s h
 unfolding of_kind
@@ -125,9 +125,9 @@ pub section_walked : (finds : ℕ → Found) (s : List ℕ) (h : Header) → sec
 section_walked finds s h p = (with_body_lem finds s h p).1
 
 -- a section of kind k that is sound: its header has passed, and the walk through its body stands
-pub section_sound : (k : Kind) (s : List ℕ) (h : Header) → section_by (onlyOf k) s ≡ resulted h → Passed k s h × Stands (body_walk k s)
+pub section_sound : (k : Kind) (s : List ℕ) (h : Header) → section_by (only_of k) s ≡ resulted h → Passed k s h × Stands (body_walk k s)
 section_sound k s h p =
-    let w = with_body_lem (onlyOf k) s h p in
+    let w = with_body_lem (only_of k) s h p in
     let q = (header_passed k s h w.0).1 in
     (q, (w.1.0, sym (ap (λ (g : Header). body_walk g.kind s) q.fields) ∙ w.1.1))
 

@@ -16,7 +16,7 @@ use Rattle.refusal.specs.Outcomes.{resulted}
 use Rattle.refusal.specs.Outputs.{output_after}
 use Rattle.bytes_put.proofs.PutLaws.{put_behind, put_next}
 use Rattle.kind.specs.declared.Kind.{Kind}
-use Rattle.kind.specs.Kinds.{tableIdOf}
+use Rattle.kind.specs.Kinds.{table_id_of}
 use Rattle.section.specs.declared.write.Given.{Given}
 use Rattle.section.specs.Encoding.{header_head, length_with, head_for, encode_with}
 use Rattle.section.specs.Writing.{header_given, header_fits}
@@ -45,7 +45,7 @@ header_room g e =
     }
 
 -- the bytes, three after three
-pub header_put : (o : List ℕ) {p q r : List ℕ} (k : Kind) (g : Given) (n t x y z : ℕ) → t ≡ tableIdOf k
+pub header_put : (o : List ℕ) {p q r : List ℕ} (k : Kind) (g : Given) (n t x y z : ℕ) → t ≡ table_id_of k
     → (x ≡ t * 65536 + 61440 + length_with n) × (x < 16777216)
     → (y ≡ g.extension * 256 + 192 + g.version * 2 + g.current) × (y < 16777216)
     → (z ≡ g.number * 65536 + g.last * 256) × (z < 16777216)

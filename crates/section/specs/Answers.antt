@@ -45,7 +45,7 @@ with_body (resulted h) s = body_verdict h s
 unfoldable pub verdict_by : (ℕ → Found) → List ℕ → Verdict
 verdict_by finds s = with_body (header_by finds s) s
 
--- the number alone, which is that of `sectionBy` (law `plain-verdict`)
+-- the number alone, which is that of `section_by` (law `plain_verdict`)
 abbrev pub plainly : Verdict → Outcome Header
 plainly (refused_by n) = refused n
 plainly (broken_at x) = refused 9

@@ -2,7 +2,7 @@
 use Rattle.std.specs.Prelude.{ℕ, ◌+◌, ◌≤◌, ◌<◌, ◌≡◌, List, [], ◌∷◌, ◌++◌, length}
 use Rattle.checksum.specs.Register.{sealed}
 use Rattle.kind.specs.declared.Kind.{Kind}
-use Rattle.kind.specs.Kinds.{tableIdOf, limitsOf}
+use Rattle.kind.specs.Kinds.{table_id_of, limits_of}
 use Rattle.format.specs.Values.{Field, bits, reserved, Vals, number, bytes_of}
 use Rattle.section.specs.declared.header.Header.{Header}
 use Rattle.section.specs.Bodies.{body_format}
@@ -36,7 +36,7 @@ length_with n = 6 + n + 4
 -- both indicators are 1, and protocol_version is 0
 abbrev pub head_for : Kind → HeaderFields → ℕ → Vals header_head
 head_for k h n =
-    (tableIdOf k, (1, (1, (h.r1, (length_with n, (h.extension, (h.r2, (h.version, (h.current, (h.number, (h.last, (0, record {}))))))))))))
+    (table_id_of k, (1, (1, (h.r1, (length_with n, (h.extension, (h.r2, (h.version, (h.current, (h.number, (h.last, (0, record {}))))))))))))
 
 -- the bytes of a section with this body: the header, the body, and the checksum after them
 abbrev pub unsealed : Kind → HeaderFields → List ℕ → List ℕ
@@ -60,9 +60,9 @@ pub record WellFormed (k : Kind) (y : Section k) : Type 0 where
   pub version : y.header.version < 32
   pub current : y.header.current < 2
   pub ordered : y.header.number ≤ y.header.last
-  pub last : y.header.last ≤ (limitsOf k).last
-  pub smallest : (limitsOf k).smallest ≤ length_with (length (body_bytes y))
-  pub largest : length_with (length (body_bytes y)) ≤ (limitsOf k).largest
+  pub last : y.header.last ≤ (limits_of k).last
+  pub smallest : (limits_of k).smallest ≤ length_with (length (body_bytes y))
+  pub largest : length_with (length (body_bytes y)) ≤ (limits_of k).largest
   pub body : (body_format k).Ok (record {}) y.body
 
 -- ---- what is told of it

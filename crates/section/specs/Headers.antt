@@ -8,10 +8,10 @@ use Rattle.kind.specs.declared.Kind.{Kind}
 use Rattle.kind.specs.declared.Limits.{Limits}
 use Rattle.kind.specs.declared.Found.{Found}
 use Rattle.kind.specs.declared.Found.TheVariants.{Is, Nothing}
-use Rattle.kind.specs.Kinds.{limitsOf}
+use Rattle.kind.specs.Kinds.{limits_of}
 use Rattle.section.specs.declared.header.Header.{Header}
 
--- ---- the fields, by the names of SCOPE 1.3: the same as those of `headerHead` in Encoding.antt (law `header-bits`), read by their bytes
+-- ---- the fields, by the names of SCOPE 1.3: the same as those of `header_head` in Encoding.antt (law `header_bits`), read by their bytes
 abbrev pub table_id : List ℕ → ℕ
 table_id s = byte_at s 0
 
@@ -75,8 +75,8 @@ length_tests l k s =
 -- 2
 unfoldable pub of_kind : List ℕ → Found → Outcome Header
 of_kind s Nothing = refused 2
-of_kind s (Is k) = length_tests (limitsOf k) k s
+of_kind s (Is k) = length_tests (limits_of k) k s
 
--- 1 to 8 of a call that reads the kinds that `finds` finds by their table_id: all five (kindOf), or one (onlyOf k)
+-- 1 to 8 of a call that reads the kinds that `finds` finds by their table_id: all five (kind_of), or one (only_of k)
 unfoldable pub header_by : (ℕ → Found) → List ℕ → Outcome Header
 header_by finds s = or_refuse 1 (leb 3 (length s)) (of_kind s (finds (table_id s)))

@@ -6,7 +6,7 @@ use Rattle.bytes_at.specs.Walks.{standing}
 use Rattle.refusal.specs.Outcomes.{Outcome, resulted, after}
 use Rattle.kind.specs.declared.Kind.{Kind}
 use Rattle.kind.specs.declared.Found.{Found}
-use Rattle.kind.specs.Kinds.{limitsOf}
+use Rattle.kind.specs.Kinds.{limits_of}
 use Rattle.format.specs.Formats.{walks_all}
 use Rattle.section.specs.Walked.{body_of}
 use Rattle.section.specs.declared.header.Header.{Header}
@@ -14,7 +14,7 @@ use Rattle.section.specs.Headers.{header_by}
 
 -- the walk through the body of a section of a kind
 abbrev pub body_walk : Kind → List ℕ → Walk
-body_walk k s = walks_all (body_of k) s (length s - 4) (limitsOf k).body
+body_walk k s = walks_all (body_of k) s (length s - 4) (limits_of k).body
 
 -- 9
 unfoldable pub body_test : Header → List ℕ → Outcome Header

@@ -2,7 +2,7 @@
 use Rattle.std.specs.Prelude.{ℕ, ◌+◌, Bool, ltb, leb}
 use Rattle.logic.specs.Loops.{◌&◌}
 use Rattle.kind.specs.declared.Kind.{Kind}
-use Rattle.kind.specs.Kinds.{limitsOf}
+use Rattle.kind.specs.Kinds.{limits_of}
 use Rattle.section.specs.declared.write.Given.{Given}
 use Rattle.section.specs.Encoding.{HeaderFields}
 
@@ -16,8 +16,8 @@ header_fits g = ltb g.extension 65536 & ltb g.version 32 & ltb g.current 2 & ltb
 
 -- 8: its number is at most the last, and the last at most its kind's
 unfoldable pub numbers_fit : Kind → Given → Bool
-numbers_fit k g = leb g.number g.last & leb g.last (limitsOf k).last
+numbers_fit k g = leb g.number g.last & leb g.last (limits_of k).last
 
 -- 24: a section of n bytes is at most as long as its kind's may be, and has room in a buffer
 unfoldable pub length_fits : Kind → ℕ → ℕ → Bool
-length_fits k room n = leb n ((limitsOf k).largest + 3) & leb n room
+length_fits k room n = leb n ((limits_of k).largest + 3) & leb n room

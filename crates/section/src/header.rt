@@ -1,6 +1,6 @@
 // The header: its tests 1 to 8 and its fields.
 ghost use Rattle.std.specs.Prelude.{◌≡◌};
-ghost use Rattle.kind.specs.Kinds.{kind_of, onlyOf};
+ghost use Rattle.kind.specs.Kinds.{kind_of, only_of};
 ghost use Rattle.section.specs.Headers.{header_by, of_kind, length_tests, checksum_test, number_tests};
 ghost use Rattle.section.specs.Answers.{head_outcome};
 
@@ -37,7 +37,7 @@ pub fn header_of_any(s: &[u8]) -> Head
 
 // The header of a section of one kind; the others are refused.
 pub fn header_of_kind(s: &[u8], kind: Kind) -> Head
-    ensures { head_outcome result ≡ header_by (onlyOf kind) s.now }
+    ensures { head_outcome result ≡ header_by (only_of kind) s.now }
 {
     if s.len() < 3 {
         return Head::Refused(Refusal::TooShort);

@@ -3,7 +3,7 @@
 ghost use Rattle.std.specs.Prelude.{◌≡◌, true, ◌+◌, ◌-◌, ◌*◌, ◌<◌, ◌≤◌, length, take};
 ghost use Rattle.std.proofs.lemmas.List.Edits.{sets};
 ghost use Rattle.checksum.specs.Register.{register, four_bytes};
-ghost use Rattle.kind.specs.Kinds.{limitsOf, kind_of, onlyOf};
+ghost use Rattle.kind.specs.Kinds.{limits_of, kind_of, only_of};
 ghost use Rattle.format.specs.Formats.{walks_all};
 ghost use Rattle.format.specs.Values.{number, bytes_of};
 ghost use Rattle.section.specs.Walked.{body_of};
@@ -37,7 +37,7 @@ pub fn inspect_any(s: &[u8]) -> Inspected
 
 // A section of one kind; the others are refused.
 pub fn inspect_kind(s: &[u8], kind: Kind) -> Inspected
-    ensures { verdict_of result ≡ verdict_by (onlyOf kind) s.now }
+    ensures { verdict_of result ≡ verdict_by (only_of kind) s.now }
 {
     with_body(s, header_of_kind(s, kind))
 }
@@ -77,7 +77,7 @@ fn body_test(s: &[u8], h: Header) -> Inspected
 
 // Where the body of a section of this kind begins.
 pub fn body_start(kind: Kind) -> usize
-    ensures { (result ≡ (limitsOf kind).body) × (result < 4096) }
+    ensures { (result ≡ (limits_of kind).body) × (result < 4096) }
 {
     let limits = kind.limits();
     limits.body

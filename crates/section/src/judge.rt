@@ -1,6 +1,6 @@
 // The judge: a whole section by the tests 1 to 9.
 ghost use Rattle.std.specs.Prelude.{◌≡◌};
-ghost use Rattle.kind.specs.Kinds.{kind_of, onlyOf};
+ghost use Rattle.kind.specs.Kinds.{kind_of, only_of};
 ghost use Rattle.section.specs.Answers.{head_outcome, verdict_of, plainly};
 ghost use Rattle.section.specs.Sections.{section_by};
 
@@ -18,7 +18,7 @@ pub fn judge_any(s: &[u8]) -> Head
 
 // A section of one kind; the others are refused.
 pub fn judge_kind(s: &[u8], kind: Kind) -> Head
-    ensures { head_outcome result ≡ section_by (onlyOf kind) s.now }
+    ensures { head_outcome result ≡ section_by (only_of kind) s.now }
 {
     plain(inspect_kind(s, kind))
 }

@@ -10,7 +10,7 @@ use Rattle.refusal.proofs.OutcomeLaws.{not_both}
 use Rattle.refusal.proofs.TestLaws.{either_way}
 use Rattle.kind.specs.declared.Kind.{Kind}
 use Rattle.kind.specs.declared.Kind.TheVariants.{Mgt, Tvct, Rrt, Eit, Ett}
-use Rattle.kind.specs.Kinds.{onlyOf}
+use Rattle.kind.specs.Kinds.{only_of}
 use Rattle.format.specs.Listed.{nth_of}
 use Rattle.part.specs.declared.Part.{Part}
 use Rattle.descriptor.specs.Descriptors.{descriptors_of, content_advisory}
@@ -133,7 +133,7 @@ pub value_rows_nine : (room : ℕ) → NoNine Rrt (λ s. value_rows_of s room)
 value_rows_nine room = fair_reader _ _ _ (value_count_reads room) (λ y. room_fair 6 _ room)
 
 -- ---- the texts
-units_fair : (s : List ℕ) (w : Which) (h : Header) → section_by (onlyOf (kind_for w)) s ≡ resulted h → field_of s w ≡ refused 9 → ⊥
+units_fair : (s : List ℕ) (w : Which) (h : Header) → section_by (only_of (kind_for w)) s ≡ resulted h → field_of s w ≡ refused 9 → ⊥
 units_fair s w h q e = not_both 9 h (sym (field_nine s w e) ∙ q)
 
 pub units_nine : (w : Which) (k : ℕ) → NoNine (kind_for w) (λ s. text_units s w k)

@@ -7,7 +7,7 @@ use native.Mathlib.Omega.{arith}
 use lib.ListN.{length}
 use Rattle.refusal.specs.Outcomes.{Outcome, refused, resulted, after, or_none}
 use Rattle.kind.specs.declared.Kind.TheVariants.{Mgt, Tvct, Rrt, Eit, Ett}
-use Rattle.kind.specs.Kinds.{limitsOf}
+use Rattle.kind.specs.Kinds.{limits_of}
 use Rattle.part.specs.declared.Part.{Part}
 use Rattle.part.specs.Parts.{bytes_in}
 use Rattle.format.specs.Lawful.{Lies}
@@ -88,17 +88,17 @@ pub parts_hold : PartsHold
 unfolding after text as_text
 parts_hold = record {
   mgt_descriptors = λ y o.
-      ap resulted (mgts.own_lie (encode y) (encode_bytes Mgt y o) (limitsOf Mgt).body _ y.body o.body (body_lies Mgt y o) (body_ends Mgt y o));
+      ap resulted (mgts.own_lie (encode y) (encode_bytes Mgt y o) (limits_of Mgt).body _ y.body o.body (body_lies Mgt y o) (body_ends Mgt y o));
   defined_descriptors = of_entry_lem Table (λ a x. resulted (defined_for a x)) (λ d. d.descriptors) _
       (λ y o a b x p l. ap resulted (mgts.descriptors_lie (encode y) (encode_bytes Mgt y o) a x p l));
   tvct_descriptors = λ y o.
-      ap resulted (tvcts.own_lie (encode y) (encode_bytes Tvct y o) (limitsOf Tvct).body _ y.body o.body (body_lies Tvct y o) (body_ends Tvct y o) y.header.extension);
+      ap resulted (tvcts.own_lie (encode y) (encode_bytes Tvct y o) (limits_of Tvct).body _ y.body o.body (body_lies Tvct y o) (body_ends Tvct y o) y.header.extension);
   channel_descriptors = of_entry_lem Channel (λ a x. resulted (channel_for a x)) (λ c. c.descriptors) _
       (λ y o a b x p l. ap resulted (channels.descriptors_lie (encode y) (encode_bytes Tvct y o) a x p l));
   region_name = λ y o.
-      ap resulted (rrts.name_lies (encode y) (encode_bytes Rrt y o) (limitsOf Rrt).body _ y.body o.body (body_lies Rrt y o) (body_ends Rrt y o)).1;
+      ap resulted (rrts.name_lies (encode y) (encode_bytes Rrt y o) (limits_of Rrt).body _ y.body o.body (body_lies Rrt y o) (body_ends Rrt y o)).1;
   rrt_descriptors = λ y o.
-      ap resulted (rrts.own_lie (encode y) (encode_bytes Rrt y o) (limitsOf Rrt).body _ y.body o.body (body_lies Rrt y o) (body_ends Rrt y o) y.header.extension);
+      ap resulted (rrts.own_lie (encode y) (encode_bytes Rrt y o) (limits_of Rrt).body _ y.body o.body (body_lies Rrt y o) (body_ends Rrt y o) y.header.extension);
   dimension_name = of_entry_lem Dimension (λ d x. resulted (dimension_for d x)) (λ d. d.name) _
       (λ y o d b x p l. ap resulted (rrts.dimension_name_lies (encode y) (encode_bytes Rrt y o) d x p l).1);
   short_text = of_value_lem (λ v. v.short_text) (λ v. v.short) (λ y o a v p l. (rrts.short_lies (encode y) (encode_bytes Rrt y o) a v p l).1);
@@ -112,5 +112,5 @@ parts_hold = record {
       of_entry_lem Event (λ a e. or_none (text_place region (descriptors_place a e).start (descriptors_of content_advisory e.descs))) (λ p. p) _
       (λ y o a b e p l. region_text_lem resulted (λ t. resulted (text.enc t)) (λ t q. refl) (encode y) (encode_bytes Eit y o) a e p l region) i;
   extended_text = λ y o.
-      ap resulted (etts.as_text_lies (encode y) (limitsOf Ett).body _ y.body o.body (body_lies Ett y o) (body_ends Ett y o)).1;
+      ap resulted (etts.as_text_lies (encode y) (limits_of Ett).body _ y.body o.body (body_lies Ett y o) (body_ends Ett y o)).1;
 }

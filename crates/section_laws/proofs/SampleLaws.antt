@@ -6,7 +6,7 @@ use native.Mathlib.Omega.{arith}
 use lib.ListN.{length}
 use Rattle.kind.specs.declared.Kind.{Kind}
 use Rattle.kind.specs.declared.Kind.TheVariants.{Mgt, Tvct, Rrt, Eit, Ett}
-use Rattle.kind.specs.Kinds.{limitsOf}
+use Rattle.kind.specs.Kinds.{limits_of}
 use Rattle.format.specs.Repeats.{All}
 use Rattle.format.specs.Values.{bytes_of}
 use Rattle.format.specs.Laws.OfValues.{bytes_bytes}
@@ -49,7 +49,7 @@ named_ok t more o os h = (o, ((record {}, (omega (arith, h), (omega (arith, h), 
 
 -- ---- the records
 good : (k : Kind) (n : ℕ) (b : (body_format k).Val) → (body_format k).Ok (record {}) b
-    → (n < 65536) × (((limitsOf k).smallest ≤ length_with (length ((body_format k).enc b))) × (length_with (length ((body_format k).enc b)) ≤ (limitsOf k).largest))
+    → (n < 65536) × (((limits_of k).smallest ≤ length_with (length ((body_format k).enc b))) × (length_with (length ((body_format k).enc b)) ≤ (limits_of k).largest))
     → WellFormed k (section n b)
 good k n b o h = record {
   r1 = omega arith;

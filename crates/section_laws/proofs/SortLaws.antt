@@ -8,9 +8,10 @@ use mathlib.Core.Option.{none, some}
 use native.Mathlib.Omega.{arith}
 use lib.ListN.{length}
 use lib.Seq.{take-length}
+use Rattle.format.proofs.KeptLaws.{laws}
 use Rattle.refusal.specs.Outcomes.{Outcome, refused, resulted, after}
 use Rattle.kind.specs.declared.Kind.TheVariants.{Eit}
-use Rattle.kind.specs.Kinds.{onlyOf}
+use Rattle.kind.specs.Kinds.{only_of}
 use Rattle.part.specs.declared.Part.{Part}
 use Rattle.strings.specs.Strings.{text, structure, strings_of}
 use Rattle.text.specs.Values.{units_of}
@@ -48,17 +49,17 @@ text_sort (some []) o p k e = let z : ◌≡◌ {A = ℕ} 0 1 = cc in absurd (om
 text_sort (some (x ∷ xs)) o p k e =
     let t = some (x ∷ xs) in
     let f = text.enc t in
-    let sound = (text.law (record {})).sound f (length f) 0 t o (take-length f) (omega arith) in
+    let sound = (text.law laws (record {})).sound f (length f) 0 t o (take-length f) (omega arith) in
     told_fair (units_of (x ∷ xs) 0) (replaced_of (x ∷ xs) 0) k (subst Fair (units_is t o 0) (units_fair f (length f) 0 (length f) sound 0 (omega (arith, count_is t o)))) e
 
 -- of every event of a well-formed record
 pub title_sort_lem : (a : ℕ) (e : EventFields) → event_format.Ok (record {}) e → (k : ℕ) → title_record a e ≡ refused_title k → OfText k
 title_sort_lem a e o k q =
     let s = event_format.enc e in
-    text_sort e.title (title_lies s ((event_format.law (record {})).bytes e o) 0 e o (take-length s)).0 _ k q
+    text_sort e.title (title_lies s ((event_format.law laws (record {})).bytes e o) 0 e o (take-length s)).0 _ k q
 
 -- ---- a title that has text, asked for alone
-pub title_alone : (s : List ℕ) (h : Header) → section_by (onlyOf Eit) s ≡ resulted h → (i a : ℕ) → spot_in Event s i ≡ resulted a
+pub title_alone : (s : List ℕ) (h : Header) → section_by (only_of Eit) s ≡ resulted h → (i a : ℕ) → spot_in Event s i ≡ resulted a
     → (p : Part) → title_at s a ≡ Text p → title_told s a ≡ text_told (text_replaced s (Title i) 0) (text_units s (Title i) 0)
 unfolding title_told told_of text_units text_replaced told_from field_of title_in after
 title_alone s h judged i a found p e = rw (judged, found, e)

@@ -6,7 +6,7 @@ use lib.ListN.{length}
 use Rattle.refusal.specs.Outcomes.{Outcome, refused, resulted, after}
 use Rattle.refusal.proofs.OutcomeLaws.{after_result, after_refused}
 use Rattle.kind.specs.declared.Kind.TheVariants.{Mgt, Tvct, Rrt, Eit, Ett}
-use Rattle.kind.specs.Kinds.{limitsOf, onlyOf}
+use Rattle.kind.specs.Kinds.{limits_of, only_of}
 use Rattle.mgt.specs.Fields.{defined_at}
 use Rattle.mgt.specs.Values.{defined_for}
 use Rattle.mgt.proofs.ThereLaws as mgts
@@ -38,7 +38,7 @@ use Rattle.section_laws.specs.Told.{mgt_told, defined_told, tvct_told, channel_t
 use Rattle.section_laws.specs.Accepted.{Reads}
 
 -- what is asked of an entry of a section that the judge refuses is refused alike
-pub spot_refused : (e : Entry) {A : Type 0} (answer : ℕ → Outcome A) (i : ℕ) (s : List ℕ) (n : ℕ) → section_by (onlyOf (kind_of_entry e)) s ≡ refused n
+pub spot_refused : (e : Entry) {A : Type 0} (answer : ℕ → Outcome A) (i : ℕ) (s : List ℕ) (n : ℕ) → section_by (only_of (kind_of_entry e)) s ≡ refused n
     → after (spot_of e s i) answer ≡ refused n
 unfolding spot_of
 spot_refused e answer i s n q = after_refused _ answer n (after_refused _ _ n q)
@@ -49,7 +49,7 @@ unfolding read-mgts.fields_of read-mgts.fields_in
 mgt_reads = record {
   tells = λ y o.
       after_result _ _ _ (accepts Mgt y o) ∙ after_result _ _ _ (rest_there Table y o)
-      ∙ ap resulted (mgts.fields_there (encode y) (encode_bytes Mgt y o) (limitsOf Mgt).body (length (encode y) - 4) y.body o.body (body_lies Mgt y o) (body_ends Mgt y o));
+      ∙ ap resulted (mgts.fields_there (encode y) (encode_bytes Mgt y o) (limits_of Mgt).body (length (encode y) - 4) y.body o.body (body_lies Mgt y o) (body_ends Mgt y o));
   refuses = λ s n q. after_refused _ _ n q;
 }
 
@@ -68,7 +68,7 @@ unfolding read-tvcts.fields_of read-tvcts.fields_in
 tvct_reads = record {
   tells = λ y o.
       after_result _ _ _ (accepts Tvct y o) ∙ after_result _ _ _ (rest_there Channel y o)
-      ∙ ap resulted (tvcts.fields_there (encode y) (encode_bytes Tvct y o) (limitsOf Tvct).body (length (encode y) - 4) y.body o.body (body_lies Tvct y o) (body_ends Tvct y o) y.header.extension);
+      ∙ ap resulted (tvcts.fields_there (encode y) (encode_bytes Tvct y o) (limits_of Tvct).body (length (encode y) - 4) y.body o.body (body_lies Tvct y o) (body_ends Tvct y o) y.header.extension);
   refuses = λ s n q. after_refused _ _ n q;
 }
 
@@ -86,10 +86,10 @@ pub rrt_reads : Reads Rrt read-rrts.fields_of rrt_told
 unfolding read-rrts.fields_of read-rrts.fields_in
 rrt_reads = record {
   tells = λ y o.
-      let f = rrts.first_there (encode y) (encode_bytes Rrt y o) (limitsOf Rrt).body (length (encode y) - 4) y.body o.body (body_lies Rrt y o) (body_ends Rrt y o) in
-      let t = rrts.fields_there (encode y) (encode_bytes Rrt y o) (limitsOf Rrt).body (length (encode y) - 4) y.body o.body (body_lies Rrt y o) (body_ends Rrt y o) y.header.extension in
+      let f = rrts.first_there (encode y) (encode_bytes Rrt y o) (limits_of Rrt).body (length (encode y) - 4) y.body o.body (body_lies Rrt y o) (body_ends Rrt y o) in
+      let t = rrts.fields_there (encode y) (encode_bytes Rrt y o) (limits_of Rrt).body (length (encode y) - 4) y.body o.body (body_lies Rrt y o) (body_ends Rrt y o) y.header.extension in
       after_result _ _ _ (accepts Rrt y o) ∙ after_result _ _ _ (rest_there Dimension y o)
-      ∙ ap (λ a. resulted (fields_at (encode y) y.header.extension (limitsOf Rrt).body (dimensions_end a y.body))) (sym f) ∙ ap resulted t;
+      ∙ ap (λ a. resulted (fields_at (encode y) y.header.extension (limits_of Rrt).body (dimensions_end a y.body))) (sym f) ∙ ap resulted t;
   refuses = λ s n q. after_refused _ _ n q;
 }
 
@@ -120,7 +120,7 @@ unfolding read-eits.fields_of
 eit_reads_lem = record {
   tells = λ y o.
       after_result _ _ _ (accepts Eit y o)
-      ∙ ap resulted (eits.fields_there (encode y) (encode_bytes Eit y o) (limitsOf Eit).body (length (encode y) - 4) y.body o.body (body_lies Eit y o) (body_ends Eit y o) y.header.extension);
+      ∙ ap resulted (eits.fields_there (encode y) (encode_bytes Eit y o) (limits_of Eit).body (length (encode y) - 4) y.body o.body (body_lies Eit y o) (body_ends Eit y o) y.header.extension);
   refuses = λ s n q. after_refused _ _ n q;
 }
 
@@ -139,6 +139,6 @@ unfolding read-etts.fields_of
 ett_reads_lem = record {
   tells = λ y o.
       after_result _ _ _ (accepts Ett y o)
-      ∙ ap resulted (etts.fields_there (encode y) (limitsOf Ett).body (length (encode y) - 4) y.body o.body (body_lies Ett y o) (body_ends Ett y o) y.header.extension);
+      ∙ ap resulted (etts.fields_there (encode y) (limits_of Ett).body (length (encode y) - 4) y.body o.body (body_lies Ett y o) (body_ends Ett y o) y.header.extension);
   refuses = λ s n q. after_refused _ _ n q;
 }

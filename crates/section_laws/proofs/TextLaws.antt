@@ -6,7 +6,7 @@ use lib.ListN.{length}
 use Rattle.refusal.specs.Outcomes.{Outcome, refused, resulted, after, or_none}
 use Rattle.refusal.proofs.OutcomeLaws.{after_result, after_refused, after_after}
 use Rattle.kind.specs.declared.Kind.TheVariants.{Rrt, Eit, Ett}
-use Rattle.kind.specs.Kinds.{limitsOf}
+use Rattle.kind.specs.Kinds.{limits_of}
 use Rattle.part.specs.declared.Part.{Part}
 use Rattle.part.specs.Parts.{bytes_in}
 use Rattle.format.specs.Lawful.{Lies}
@@ -89,9 +89,9 @@ module _ {A : Type 0} (ask : List ℕ → Outcome A) (tell : List StringFields �
       (λ a e. strings_in (text_by region (descriptors_of content_advisory e.descs)))
       (λ a e p l h. advisory_asked ask tell same (encode y) (encode_bytes Eit y o) a e p l region) i
   field_told Extended y o =
-      extended_asked ask tell same (encode y) (limitsOf Ett).body _ y.body o.body (body_lies Ett y o) (body_ends Ett y o)
+      extended_asked ask tell same (encode y) (limits_of Ett).body _ y.body o.body (body_lies Ett y o) (body_ends Ett y o)
   field_told RegionName y o =
-      region_asked ask tell same (encode y) (encode_bytes Rrt y o) (limitsOf Rrt).body _ y.body o.body (body_lies Rrt y o) (body_ends Rrt y o)
+      region_asked ask tell same (encode y) (encode_bytes Rrt y o) (limits_of Rrt).body _ y.body o.body (body_lies Rrt y o) (body_ends Rrt y o)
   field_told (DimensionName i) y o =
       of_entry_lem Dimension y o (λ d. resulted (dimension_at (encode y) d).name) (λ d x. resulted (strings_of x.name))
       (λ d x p l h. dimension_asked ask tell same (encode y) (encode_bytes Rrt y o) d x p l) i

@@ -1,13 +1,13 @@
 -- SCOPE 12.4 and 12.6: a section is accepted exactly when it is the encoding of a well-formed record, which is one only, and every
 -- reader answers what is told of that record. The statements of a judge are of any judge; those of a reader are of any reader beside
--- this library's judge, `sectionBy`, which keeps its own. This library's readers keep theirs too, and no judge and no reader whose answer
+-- this library's judge, `section_by`, which keeps its own. This library's readers keep theirs too, and no judge and no reader whose answer
 -- is always the same does, nor a judge that refuses everything (proofs/).
 use Rattle.std.specs.Prelude.{ℕ, ◌≡◌, ◌↔◌, List, length}
 use Rattle.part.specs.declared.Part.{Part}
 use Rattle.refusal.specs.Outcomes.{Outcome, refused, resulted, after}
 use Rattle.kind.specs.declared.Kind.{Kind}
 use Rattle.kind.specs.declared.Kind.TheVariants.{Mgt, Tvct, Rrt, Eit, Ett}
-use Rattle.kind.specs.Kinds.{onlyOf}
+use Rattle.kind.specs.Kinds.{only_of}
 use Rattle.format.specs.Repeats.{Bytes}
 use Rattle.strings.specs.Strings.{text, StringFields, strings_of}
 use Rattle.rating.specs.Values.{Rated, Descriptor}
@@ -49,11 +49,11 @@ Unique = (k : Kind) (x y : Section k) → WellFormed k x → WellFormed k y → 
 -- ---- a reader of a kind: of the encoding of a record it answers what is told of that, and what the judge refuses it refuses alike
 pub record Reads (k : Kind) {A : Type 0} (reader : List ℕ → Outcome A) (tell : Section k → Outcome A) : Type 0 where
   pub tells : (y : Section k) → WellFormed k y → reader (encode y) ≡ tell y
-  pub refuses : (s : List ℕ) (n : ℕ) → section_by (onlyOf k) s ≡ refused n → reader s ≡ refused n
+  pub refuses : (s : List ℕ) (n : ℕ) → section_by (only_of k) s ≡ refused n → reader s ≡ refused n
 
 -- 9 is the judge's: of a section that it accepts no reader says it again
 abbrev pub NoNine : Kind → {A : Type 0} → (List ℕ → Outcome A) → Type 0
-NoNine k reader = (s : List ℕ) → Bytes s → (h : Header) → section_by (onlyOf k) s ≡ resulted h → reader s ≡ refused 9 → ⊥
+NoNine k reader = (s : List ℕ) → Bytes s → (h : Header) → section_by (only_of k) s ≡ resulted h → reader s ≡ refused 9 → ⊥
 
 -- a reader of a text field alone: 9 where its bytes are those of no text
 pub record ReadsText {A : Type 0} (reader : List ℕ → Outcome A) (tell : List StringFields → Outcome A) : Type 0 where

@@ -1,5 +1,5 @@
 -- SCOPE 12.4: which definition is which reader of the statements (Accepted.antt): those that the promises of the calls cite.
-use Rattle.kind.specs.Kinds.{kind_of, onlyOf}
+use Rattle.kind.specs.Kinds.{kind_of, only_of}
 use Rattle.text.specs.Texts.{field_count, field_heading, field_units}
 use Rattle.section.specs.Sections.{section_by}
 use Rattle.reading.specs.Mgts as mgts
@@ -12,7 +12,7 @@ use Rattle.section_laws.specs.Accepted.{Library}
 
 abbrev pub ours : Library
 ours = record {
-  judge = λ k s. section_by (onlyOf k) s;
+  judge = λ k s. section_by (only_of k) s;
   judge_all = section_by kind_of;
   mgt = mgts.fields_of;
   defined = λ i s. mgts.entry_of s i;

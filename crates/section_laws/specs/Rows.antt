@@ -5,7 +5,7 @@ use Rattle.std.proofs.lemmas.List.Edits.{sets}
 use Rattle.refusal.specs.Outcomes.{Outcome, refused, resulted}
 use Rattle.kind.specs.declared.Kind.{Kind}
 use Rattle.kind.specs.declared.Kind.TheVariants.{Rrt, Eit}
-use Rattle.kind.specs.Kinds.{onlyOf}
+use Rattle.kind.specs.Kinds.{only_of}
 use Rattle.format.specs.Listed.{all_of}
 use Rattle.mgt.specs.Values as mgts
 use Rattle.channel.specs.Values as channels
@@ -66,7 +66,7 @@ value_count_told room y = room_for_rows 6 (values_in (entries_of Dimension y)) r
 -- a writer into a lent list: what it leaves there is what is told, and a section that is refused leaves it as it was
 pub record Stores (k : Kind) (writer : List ℕ → List ℕ → List ℕ) (tell : List ℕ → Section k → List ℕ) : Type 0 where
   pub stores : (l : List ℕ) (y : Section k) → WellFormed k y → writer l (encode y) ≡ tell l y
-  pub keeps : (l s : List ℕ) (n : ℕ) → section_by (onlyOf k) s ≡ refused n → writer l s ≡ l
+  pub keeps : (l s : List ℕ) (n : ℕ) → section_by (only_of k) s ≡ refused n → writer l s ≡ l
 
 -- what is asked: of so much room in a lent list, or of the list itself as it was before (`before`); the section comes last
 pub record RowLibrary : Type 0 where

@@ -4,7 +4,7 @@ use Rattle.std.proofs.Math.Option.{Option, none, some}
 use Rattle.part.specs.declared.Part.{Part}
 use Rattle.refusal.specs.Outcomes.{Outcome, refused, resulted, or_none}
 use Rattle.kind.specs.declared.Kind.TheVariants.{Mgt, Tvct, Rrt, Eit, Ett}
-use Rattle.kind.specs.Kinds.{limitsOf}
+use Rattle.kind.specs.Kinds.{limits_of}
 use Rattle.strings.specs.Strings.{text, StringFields, strings_of, as_text}
 use Rattle.descriptor.specs.Descriptors.{descriptors_of, content_advisory}
 use Rattle.rating.specs.Values.{Rated, Descriptor, rated_by, text_by, text_place, descriptor_for}
@@ -33,21 +33,21 @@ use Rattle.section_text.specs.Fields.{kind_for}
 
 -- ---- the MGT, and its defined table i
 abbrev pub mgt_told : Section Mgt → Outcome MgtTable
-mgt_told y = resulted (mgts.fields_for (limitsOf Mgt).body y.body)
+mgt_told y = resulted (mgts.fields_for (limits_of Mgt).body y.body)
 
 abbrev pub defined_told : ℕ → Section Mgt → Outcome Defined
 defined_told i y = of_entry Table (λ a x. resulted (mgts.defined_for a x)) i y
 
 -- ---- the TVCT, and its channel i
 abbrev pub tvct_told : Section Tvct → Outcome TvctTable
-tvct_told y = resulted (tvcts.fields_for y.header.extension (limitsOf Tvct).body y.body)
+tvct_told y = resulted (tvcts.fields_for y.header.extension (limits_of Tvct).body y.body)
 
 abbrev pub channel_told : ℕ → Section Tvct → Outcome ChannelAnswer
 channel_told i y = of_entry Channel (λ a x. resulted (channels.channel_for a x)) i y
 
 -- ---- the RRT, its dimension i, and value j of that
 abbrev pub rrt_told : Section Rrt → Outcome RrtTable
-rrt_told y = resulted (rrts.fields_for y.header.extension (limitsOf Rrt).body y.body)
+rrt_told y = resulted (rrts.fields_for y.header.extension (limits_of Rrt).body y.body)
 
 abbrev pub dimension_told : ℕ → Section Rrt → Outcome DimensionAnswer
 dimension_told i y = of_entry Dimension (λ d x. resulted (rrts.dimension_for d x)) i y
@@ -78,7 +78,7 @@ place_told i region y =
 
 -- ---- the ETT
 abbrev pub ett_told : Section Ett → Outcome EttTable
-ett_told y = resulted (etts.fields_for y.header.extension (limitsOf Ett).body y.body)
+ett_told y = resulted (etts.fields_for y.header.extension (limits_of Ett).body y.body)
 
 -- ---- the strings of a text
 abbrev pub strings_in : Option text.Val → Outcome (List StringFields)

@@ -8,7 +8,8 @@ use lib.ListN.{length, take, drop}
 use lib.Seq.{take-length}
 use Rattle.bytes_at.specs.declared.Walk.TheVariants.{To}
 use Rattle.refusal.specs.Outcomes.{resulted}
-use Rattle.kind.specs.Kinds.{onlyOf}
+use Rattle.kind.specs.Kinds.{only_of}
+use Rattle.format.proofs.KeptLaws.{laws}
 use Rattle.format.specs.Repeats.{Bytes}
 use Rattle.format.specs.Formats.{walks, walks_all}
 use Rattle.part.specs.declared.Part.{Part}
@@ -25,7 +26,7 @@ use Rattle.section_text.specs.declared.field.Which.TheVariants.{Title, Advisory,
 use Rattle.section_text.specs.Fields.{kind_for}
 use Rattle.section_text.specs.Inner.{Begun}
 
-pub judged_begun : (s : List ℕ) (w : Which) (h : Header) → section_by (onlyOf (kind_for w)) s ≡ resulted h → Begun s w
+pub judged_begun : (s : List ℕ) (w : Which) (h : Header) → section_by (only_of (kind_for w)) s ≡ resulted h → Begun s w
 judged_begun s (Title i) h e = judged_begins Event s h e
 judged_begun s (Advisory i region) h e = judged_begins Event s h e
 judged_begun s Extended h e = record {}
@@ -51,8 +52,8 @@ sized_sound s end at b h w = record {
 pub cut_out : (s : List ℕ) (p : Part) → Bytes s → SoundIn s p.start p.length
     → walks_all text (bytes_in s p) (length (bytes_in s p)) 0 ≡ To (length (bytes_in s p))
 cut_out s p z g =
-    let u = (text.law (record {})).complete s (p.start + p.length) p.start (omega arith) g.there z g.sound in
+    let u = (text.law laws (record {})).complete s (p.start + p.length) p.start (omega arith) g.there z g.sound in
     let n : length (text.enc u.0) ≡ p.length = omega (arith, u.1.1.1) in
     let e : bytes_in s p ≡ text.enc u.0 = ap (λ k. take k (drop p.start s)) (sym n) ∙ u.1.1.0 in
     subst (λ l. walks_all text l (length l) 0 ≡ To (length l)) (sym e)
-    ((text.law (record {})).sound _ (length (text.enc u.0)) 0 u.0 u.1.0 (take-length (text.enc u.0)) (omega arith))
+    ((text.law laws (record {})).sound _ (length (text.enc u.0)) 0 u.0 u.1.0 (take-length (text.enc u.0)) (omega arith))

@@ -18,13 +18,12 @@ use Rattle.refusal.specs.Outcomes.{Outcome, refused, resulted, after, or_refuse,
 use Rattle.refusal.proofs.TestLaws.{stops_lt}
 use Rattle.refusal.proofs.OutcomeLaws.{not_both, after_is, after_refused, same_result}
 use Rattle.kind.specs.declared.Kind.TheVariants.{Rrt, Eit, Ett}
-use Rattle.kind.specs.Kinds.{limitsOf, onlyOf}
+use Rattle.kind.specs.Kinds.{limits_of, only_of}
 use Rattle.format.specs.Repeats.{Bytes}
 use Rattle.format.specs.Formats.{walks, walks_all}
 use Rattle.part.specs.declared.Part.{Part}
 use Rattle.part.specs.Parts.{bytes_in}
 use Rattle.strings.specs.Strings.{text}
-use Rattle.rrt.specs.Walked.{value}
 use Rattle.rrt.specs.Fields as rrts
 use Rattle.rrt.proofs.WalkLaws.{region_walked, name_walked, value_parts}
 use Rattle.eit.specs.declared.event.Title.TheVariants as titles
@@ -67,7 +66,7 @@ before : (s : List ℕ) → length s - 4 ≤ length s
 before s = omega arith
 
 -- ---- an entry that is found in a section that was judged stands
-module _ (e : Entry) (s : List ℕ) (h : Header) (judged : section_by (onlyOf (kind_of_entry e)) s ≡ resulted h) where
+module _ (e : Entry) (s : List ℕ) (h : Header) (judged : section_by (only_of (kind_of_entry e)) s ≡ resulted h) where
   -- asked of the whole section, which the laws of entries speak of, it is found at the same place
   asked : (i : ℕ) → spot_of e s i ≡ spot_in e s i
   unfolding spot_of after
@@ -97,7 +96,7 @@ place_by : (s : List ℕ) (o : Option Part) (p : Part) → or_none o ≡ resulte
 place_by s none p e g = not_both 13 p e
 place_by s (some t) p e g = answered s p _ e g
 
-module _ (s : List ℕ) (h : Header) (judged : section_by (onlyOf Eit) s ≡ resulted h) (i : ℕ) (p : Part) where
+module _ (s : List ℕ) (h : Header) (judged : section_by (only_of Eit) s ≡ resulted h) (i : ℕ) (p : Part) where
   of_title : title_in s i ≡ resulted p → SoundField s p
   unfolding title_in title_at format_of
   of_title e =
@@ -117,21 +116,21 @@ module _ (s : List ℕ) (h : Header) (judged : section_by (onlyOf Eit) s ≡ res
       (advisory_sound s _ region (omega (arith, l.0)) (descriptors_at s f.0).start l.1)
 
 -- ---- ETT
-of_extended : (s : List ℕ) (h : Header) → section_by (onlyOf Ett) s ≡ resulted h → SoundField s (extended_text_in s)
+of_extended : (s : List ℕ) (h : Header) → section_by (only_of Ett) s ≡ resulted h → SoundField s (extended_text_in s)
 unfolding body_of etts.fields_at
 of_extended s h judged =
     let w = (section_sound Ett s h judged).1 in
-    let t = body_text s (length s - 4) (limitsOf Ett).body w.0 w.1 in
+    let t = body_text s (length s - 4) (limits_of Ett).body w.0 w.1 in
     let e : length s - 4 ≡ (extended_text_in s).start + (extended_text_in s).length = omega (arith, t.0) in
     record { there = omega (arith, t.0); sound = subst (λ x. walks_all text s x (extended_text_in s).start ≡ To x) e t.1 }
 
 -- ---- RRT
-module _ (s : List ℕ) (h : Header) (judged : section_by (onlyOf Rrt) s ≡ resulted h) where
+module _ (s : List ℕ) (h : Header) (judged : section_by (only_of Rrt) s ≡ resulted h) where
   of_region : SoundField s (region_name_in s)
   unfolding body_of
   of_region =
       let w = (section_sound Rrt s h judged).1 in
-      sized_sound s (length s - 4) _ _ (before s) (region_walked s (length s - 4) (limitsOf Rrt).body w.0 w.1)
+      sized_sound s (length s - 4) _ _ (before s) (region_walked s (length s - 4) (limits_of Rrt).body w.0 w.1)
 
   of_dimension : (i : ℕ) (p : Part) → dimension_name_in s i ≡ resulted p → SoundField s p
   unfolding dimension_name_in rrts.dimension_at format_of
@@ -160,7 +159,7 @@ module _ (s : List ℕ) (h : Header) (judged : section_by (onlyOf Rrt) s ≡ res
 
 -- ---- every text
 -- in a section that was judged
-pub placed_sound : (s : List ℕ) (w : Which) (h : Header) (p : Part) → section_by (onlyOf (kind_for w)) s ≡ resulted h → field_in s w ≡ resulted p
+pub placed_sound : (s : List ℕ) (w : Which) (h : Header) (p : Part) → section_by (only_of (kind_for w)) s ≡ resulted h → field_in s w ≡ resulted p
     → SoundIn s p.start p.length
 placed_sound s (Title i) h p j e = of_title s h j i p e
 placed_sound s (Advisory i region) h p j e = of_advisory s h j i p region e
@@ -172,7 +171,7 @@ placed_sound s (LongText i k) h p j e = of_long s h j i k p e
 
 pub field_sound : (s : List ℕ) (w : Which) (p : Part) → field_of s w ≡ resulted p → SoundIn s p.start p.length
 unfolding field_of
-field_sound s w p e = let f = after_is (section_by (onlyOf (kind_for w)) s) (λ h. field_in s w) p e in placed_sound s w f.0 p f.1.0 f.1.1
+field_sound s w p e = let f = after_is (section_by (only_of (kind_for w)) s) (λ h. field_in s w) p e in placed_sound s w f.0 p f.1.0 f.1.1
 
 -- ---- where 9 comes from
 nine_not : {A : Type 0} (o : Outcome A) (n : ℕ) → o ≡ refused n → (n ≡ 9 → ⊥) → o ≡ refused 9 → ⊥
@@ -196,11 +195,11 @@ counted_not i n o found = ⊎_elim
     (λ h. let r = found (omega arith) in result_not _ r.0 r.1)
     (eq-zero-or-pos (n - i))
 
-spot_not : (e : Entry) (s : List ℕ) (h : Header) → section_by (onlyOf (kind_of_entry e)) s ≡ resulted h → (i : ℕ) → spot_in e s i ≡ refused 9 → ⊥
+spot_not : (e : Entry) (s : List ℕ) (h : Header) → section_by (only_of (kind_of_entry e)) s ≡ resulted h → (i : ℕ) → spot_in e s i ≡ refused 9 → ⊥
 unfolding spot_in
 spot_not e s h j i = counted_not i (entry_count e s) _ (λ l. let r = entry_found e s h j i l in (r.0, sym (asked e s h j i) ∙ r.1))
 
-value_not : (s : List ℕ) (h : Header) → section_by (onlyOf Rrt) s ≡ resulted h → (i j : ℕ) → value_in s i j ≡ refused 9 → ⊥
+value_not : (s : List ℕ) (h : Header) → section_by (only_of Rrt) s ≡ resulted h → (i j : ℕ) → value_in s i j ≡ refused 9 → ⊥
 unfolding value_in value_spot format_of
 value_not s h judged i j e =
     spot_not Dimension s h judged i
@@ -215,7 +214,7 @@ place_not none = nine_not _ 13 refl (λ e. omega arith)
 place_not (some t) = result_not _ _ refl
 
 -- in a section that was judged the field is found, or there is no such text
-pub field_found : (s : List ℕ) (w : Which) (h : Header) → section_by (onlyOf (kind_for w)) s ≡ resulted h → field_in s w ≡ refused 9 → ⊥
+pub field_found : (s : List ℕ) (w : Which) (h : Header) → section_by (only_of (kind_for w)) s ≡ resulted h → field_in s w ≡ refused 9 → ⊥
 unfolding title_in advisory_text_in dimension_name_in short_text_in long_text_in
 field_found s (Title i) h j e = spot_not Event s h j i (nine_first (spot_in Event s i) _ (λ a q. result_not _ _ refl) e)
 field_found s (Advisory i region) h j e = spot_not Event s h j i (nine_first (spot_in Event s i) _ (λ a q. place_not (advisory_text_at s a region)) e)
@@ -226,9 +225,9 @@ field_found s (ShortText i k) h j e = value_not s h j i k (nine_first (value_in 
 field_found s (LongText i k) h j e = value_not s h j i k (nine_first (value_in s i k) _ (λ a q. result_not _ _ refl) e)
 
 -- so finding a field is refused by 9 only where the section is
-pub field_nine : (s : List ℕ) (w : Which) → field_of s w ≡ refused 9 → section_by (onlyOf (kind_for w)) s ≡ refused 9
+pub field_nine : (s : List ℕ) (w : Which) → field_of s w ≡ refused 9 → section_by (only_of (kind_for w)) s ≡ refused 9
 unfolding field_of
-field_nine s w = nine_first (section_by (onlyOf (kind_for w)) s) _ (λ h j. field_found s w h j)
+field_nine s w = nine_first (section_by (only_of (kind_for w)) s) _ (λ h j. field_found s w h j)
 
 -- a string of a sound field is never refused by 9, and neither is its heading
 fair_not : (o : Outcome (List ℕ)) → Fair o → o ≡ refused 9 → ⊥

@@ -4,7 +4,7 @@ use Rattle.refusal.specs.Numbers.{number_of}
 use Rattle.refusal.specs.Outcomes.{Outcome, refused, resulted, after, or_none}
 use Rattle.kind.specs.declared.Kind.{Kind}
 use Rattle.kind.specs.declared.Kind.TheVariants.{Rrt, Eit, Ett}
-use Rattle.kind.specs.Kinds.{limitsOf, onlyOf}
+use Rattle.kind.specs.Kinds.{limits_of, only_of}
 use Rattle.part.specs.declared.Part.{Part}
 use Rattle.rrt.specs.Fields as rrts
 use Rattle.eit.specs.declared.event.Title as titles
@@ -46,10 +46,10 @@ unfoldable pub advisory_text_in : List ℕ → ℕ → ℕ → Outcome Part
 advisory_text_in s i region = after (spot_in Event s i) (λ a. or_none (advisory_text_at s a region))
 
 abbrev pub extended_text_in : List ℕ → Part
-extended_text_in s = (etts.fields_at s 0 (limitsOf Ett).body (length s - 4)).text
+extended_text_in s = (etts.fields_at s 0 (limits_of Ett).body (length s - 4)).text
 
 abbrev pub region_name_in : List ℕ → Part
-region_name_in s = text_at s (limitsOf Rrt).body
+region_name_in s = text_at s (limits_of Rrt).body
 
 unfoldable pub dimension_name_in : List ℕ → ℕ → Outcome Part
 dimension_name_in s i = after (spot_in Dimension s i) (λ d. resulted (rrts.dimension_at s d).name)
@@ -75,7 +75,7 @@ field_in s (LongText i j) = long_text_in s i j
 
 -- ---- where the text asked for stands
 unfoldable pub field_of : List ℕ → Which → Outcome Part
-field_of s w = after (section_by (onlyOf (kind_for w)) s) (λ h. field_in s w)
+field_of s w = after (section_by (only_of (kind_for w)) s) (λ h. field_in s w)
 
 abbrev pub field_outcome : Field → Outcome Part
 field_outcome (fields.Refused k) = refused (number_of k)

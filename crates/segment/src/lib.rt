@@ -112,6 +112,7 @@ fn wide(x: u8) -> u16
 }
 
 // The end of a segment, with so many bits following it.
+#[tactic(auto, using(crate::proofs::SegmentLaws::ended_done, crate::proofs::SegmentLaws::ended_broken), unfolding(crate::specs::Inner::answer))]
 fn ended(following: usize, n: usize) -> usize
     ensures { result ≡ answer n (ended_text following) }
 {

@@ -2,7 +2,6 @@
 use Prim.Native.Nat.{◌+◌, ℕ}
 use mathlib.Core.Path.{◌∙◌, ◌≡◌, ap, ap₂, refl, sym}
 use mathlib.Core.Bool.{Bool, false, true}
-use native.Mathlib.Omega.{arith}
 use Rattle.logic.proofs.ChoiceLaws.{eq_no, eq_yes}
 use Rattle.logic.specs.Choices.{pick}
 use Rattle.refusal.specs.Outcomes.{resulted}

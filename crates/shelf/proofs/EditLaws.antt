@@ -9,7 +9,7 @@ use Rattle.section.specs.declared.header.Header.{Header}
 use Rattle.shelf_state.proofs.DropLaws.{drop_nobody, drop_rules, place_is}
 use Rattle.logic.proofs.LoopLaws.{and_left, and_right, isnt}
 use Rattle.shelf_state.proofs.RecordLaws.{is_of_i}
-use Rattle.shelf_state.proofs.RuleLaws.{Rules, one_watch, rules}
+use Rattle.shelf_state.proofs.RuleLaws.{Rules, one_watch}
 use Rattle.shelf_state.proofs.WatchLaws.{Fits, at_other, at_same, new_rules}
 use Rattle.shelf_state.specs.Records.{asked, is_of, place_at, watch_at}
 use Rattle.shelf_state.specs.Searches.{dropped, release, set_watch}

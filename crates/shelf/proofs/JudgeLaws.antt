@@ -4,7 +4,7 @@ use mathlib.Core.Path.{◌≡◌, ap}
 use mathlib.Core.List.{List}
 use native.Mathlib.Omega.{arith}
 use lib.ListN.{length}
-use Rattle.kind.specs.Kinds.{kind_of, limitsOf}
+use Rattle.kind.specs.Kinds.{kind_of, limits_of}
 use Rattle.kind.specs.declared.Kind.{Kind}
 use Rattle.kind.specs.declared.Kind.TheVariants.{Mgt, Tvct, Rrt, Eit, Ett}
 use Rattle.refusal.specs.Outcomes.{resulted}
@@ -14,7 +14,7 @@ use Rattle.shelf.specs.Inner.{Sound}
 use Rattle.shelf.specs.Views.{judged}
 
 -- no kind is longer than a place
-largest : (k : Kind) → (limitsOf k).largest ≤ 4093
+largest : (k : Kind) → (limits_of k).largest ≤ 4093
 largest Mgt = omega arith
 largest Tvct = omega arith
 largest Rrt = omega arith

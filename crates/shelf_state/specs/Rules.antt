@@ -4,7 +4,7 @@ use Rattle.std.specs.Prelude.{ℕ, ◌*◌, Bool, false, not, length, ltb, leb, 
 use Rattle.logic.specs.Choices.{pick}
 use Rattle.kind.specs.declared.Found.{Found}
 use Rattle.kind.specs.declared.Found.TheVariants.{Is, Nothing}
-use Rattle.kind.specs.Kinds.{kind_of, limitsOf}
+use Rattle.kind.specs.Kinds.{kind_of, limits_of}
 use Rattle.logic.specs.Loops.{◌&◌, ◌⇒◌, all, any, sum, count}
 use Rattle.shelf_state.specs.Records.{asked, watch_at, place_at, is_of, holds_for, holds}
 use Rattle.shelf_state.specs.declared.records.Asked.{Asked}
@@ -27,7 +27,7 @@ held_by s w = count s.count (λ i. holds_for (place_at s i) w)
 -- a kind that may be watched
 unfoldable pub watchable : Found → Bool
 watchable Nothing = false
-watchable (Is k) = (limitsOf k).watched
+watchable (Is k) = (limits_of k).watched
 
 -- refusal 15 is given where this fails: the PID, the table_id, the quota
 unfoldable pub in_range : Asked → ℕ → Bool

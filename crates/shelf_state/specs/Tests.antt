@@ -1,4 +1,4 @@
--- How the rules are tested: record by record and place by place. That this is the rules' own value is the law `tested-rules`.
+-- How the rules are tested: record by record and place by place. That this is the rules' own value is the law `tested_rules`.
 use Rattle.std.specs.Prelude.{ℕ, ◌+◌, Bool, not, List, ltb, leb}
 use Rattle.logic.specs.Loops.{◌&◌, ◌⇒◌, all, any}
 use Rattle.shelf_state.specs.Records.{asked, watch_at, place_at, is_of, holds}

@@ -7,6 +7,7 @@ use lib.ListN.{length, length-append}
 use Rattle.bytes_at.specs.declared.Walk.TheVariants.{To}
 use Rattle.bytes_at.specs.Fields.{byte_at}
 use Rattle.bytes_at.proofs.WalkLaws.{then_inv, skipped}
+use Rattle.format.proofs.KeptLaws.{laws}
 use Rattle.format.specs.Lawful.{Lies}
 use Rattle.format.specs.Repeats.{Bytes}
 use Rattle.format.specs.Formats.{walks, walks_all}
@@ -27,7 +28,7 @@ module _ (s : List ℕ) (end at b : ℕ) (w : walks sized_text s end at ≡ To b
       let t = fields_end 8 [] 1 refl at end p.0 p.1.0 in
       let q = then_inv _ _ b p.1.1 in
       let u = skipped 1 p.0 (byte_at s (p.0 - 1)) end q.0 q.1.0 in
-      let v = (text.law (record {})).whole s q.0 p.0 b q.1.1 in
+      let v = (text.law laws (record {})).whole s q.0 p.0 b q.1.1 in
       let z : byte_at s (p.0 - 1) ≡ byte_at s at = ap (byte_at s) (omega arith) in (
         omega (arith, t, u, v, z),
         (omega (arith, u, v), subst (λ e. walks_all text s e (at + 1) ≡ To b) (omega (arith, v)) (subst (λ a. walks_all text s q.0 a ≡ To b) t.0 q.1.1)),

@@ -10,11 +10,13 @@ use Rattle.bytes_at.specs.Walks.{fields_to, then, many, standing}
 use Rattle.bytes_at.proofs.BitLaws.{byte_bits_lem, all_at, join_at}
 use Rattle.refusal.specs.Outcomes.{Outcome, refused, after}
 use Rattle.refusal.proofs.OutcomeLaws.{after_result}
+use Rattle.format.proofs.KeptLaws.{laws}
 use Rattle.format.specs.Lawful.{Lies}
 use Rattle.format.specs.Repeats.{Bytes, All, encs}
 use Rattle.format.specs.Formats.{walks, last_byte, raw, times}
 use Rattle.format.specs.Values.{bits, number, bytes_of}
-use Rattle.format.specs.Laws.OfBytes.{lies_split, fields_fit}
+use Rattle.format.specs.Laws.OfBytes.{lies_split}
+use Rattle.format.proofs.StepLaws.{fields_fit}
 use Rattle.format.specs.Laws.OfValues.{bytes_length}
 use Rattle.format.specs.Laws.OfTold.{told_there, last_tells}
 use Rattle.strings.specs.Strings.{SegmentFields, StringFields, segment, string}
@@ -54,7 +56,7 @@ module _ (s : List ℕ) (z : Bytes s) where
   segments_there end a (g ∷ gs) o l h =
       let i = lies_split (segment.enc g) (encs segment.enc gs) s a l in
       let n = length-append (segment.enc g) (encs segment.enc gs) in
-      let w = (segment.law (record {})).sound s end a g o.0 i.0 (omega arith) in
+      let w = (segment.law laws (record {})).sound s end a g o.0 i.0 (omega arith) in
       let u = segment_there a g o.0 i.0 in
       let v = segments_there end (a + length (segment.enc g)) gs o.1 i.1 (omega arith) in
       let b = sym (standing_to _ _ w) in (
@@ -104,7 +106,7 @@ module _ {A : Type 0} (s : List ℕ) (end : ℕ) (asked : ℕ → Outcome A) (to
   there_told a (x ∷ xs) (suc k) o l h i =
       let j = lies_split (string.enc x) (encs string.enc xs) s a l in
       let n = length-append (string.enc x) (encs string.enc xs) in
-      let w = (string.law (record {})).sound s end a x o.0 j.0 (omega arith) in
+      let w = (string.law laws (record {})).sound s end a x o.0 j.0 (omega arith) in
       ap (λ v. after (standing (then (then v (many (walks string s end) k)) (λ b. fields_to (24 ∷ 8 ∷ []) b end))) asked) w
       ∙ there_told (a + length (string.enc x)) xs k o.1 j.1 (omega arith) (omega arith)
 

@@ -13,6 +13,7 @@ use Rattle.bytes_at.specs.declared.Walk.TheVariants.{To, Bad}
 use Rattle.logic.proofs.ChoiceLaws.{eq_yes, eq_no}
 use Rattle.refusal.specs.Outcomes.{Outcome, refused, resulted, after}
 use Rattle.refusal.proofs.OutcomeLaws.{after_refused}
+use Rattle.format.proofs.KeptLaws.{laws}
 use Rattle.format.specs.Lawful.{Lies}
 use Rattle.format.specs.Repeats.{Bytes, All, encs}
 use Rattle.format.specs.Formats.{walks_all}
@@ -92,7 +93,7 @@ module _ (s : List ℕ) (z : Bytes s) (end at : ℕ) (t : text.Val) (o : text.Ok
 -- ---- a field alone
 module _ (t : text.Val) (o : text.Ok (record {}) t) where
   text_bytes : Bytes (text.enc t)
-  text_bytes = (text.law (record {})).bytes t o
+  text_bytes = (text.law laws (record {})).bytes t o
 
   pub count_is : string_count (text.enc t) (length (text.enc t)) 0 ≡ length (strings_of t)
   count_is = count_told_lem (text.enc t) text_bytes _ 0 t o (take-length (text.enc t)) (omega arith)
@@ -108,7 +109,7 @@ module _ (t : text.Val) (o : text.Ok (record {}) t) where
 
   -- it is not refused by 9
   not_nine : {A : Type 0} (x : Outcome A) → of_field (text.enc t) x ≡ x
-  not_nine x = field_sound (text.enc t) x _ ((text.law (record {})).sound (text.enc t) _ 0 t o (take-length (text.enc t)) (omega arith))
+  not_nine x = field_sound (text.enc t) x _ ((text.law laws (record {})).sound (text.enc t) _ 0 t o (take-length (text.enc t)) (omega arith))
 
   pub field_count_lem : field_count (text.enc t) ≡ resulted (length (strings_of t))
   unfolding field_count

@@ -9,7 +9,7 @@ use lib.Seq.{sets, length-sets}
 use Rattle.refusal.specs.Outcomes.{Outcome, refused, resulted}
 use Rattle.refusal.proofs.TestLaws.{lets_le, stops_le}
 use Rattle.kind.specs.declared.Kind.TheVariants.{Eit}
-use Rattle.kind.specs.Kinds.{limitsOf, onlyOf}
+use Rattle.kind.specs.Kinds.{limits_of, only_of}
 use Rattle.row.proofs.RowLaws.{sets_append}
 use Rattle.eit.specs.Fields.{event_row, event_end}
 use Rattle.eit.specs.Inner.{Events}
@@ -175,11 +175,11 @@ module _ (s rows units : List ℕ) (k from : ℕ) (counted : k ≡ event_count s
       (rw (count, counted, begins) e, (rw (← e, ← counted, ← begins) put-rows, rw (← e, ← counted, ← begins) put-units))
 
 -- ---- the events of a section that was judged
-pub judged_events : (s : List ℕ) (h : Header) → section_by (onlyOf Eit) s ≡ resulted h → Events s (event_count s) first_event
+pub judged_events : (s : List ℕ) (h : Header) → section_by (only_of Eit) s ≡ resulted h → Events s (event_count s) first_event
 unfolding body_of
 judged_events s h judged =
     let p = section_sound Eit s h judged in
-    let b = body_events s (length s - 4) (limitsOf Eit).body p.1.0 p.1.1 in
+    let b = body_events s (length s - 4) (limits_of Eit).body p.1.0 p.1.1 in
     record {
       end = length s - 4;
       stands = b.0;

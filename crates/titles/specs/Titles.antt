@@ -5,7 +5,7 @@ use Rattle.refusal.specs.Numbers.{number_of}
 use Rattle.refusal.specs.Outcomes.{Outcome, refused, resulted, after, or_refuse}
 use Rattle.refusal.specs.Outputs.{no_value}
 use Rattle.kind.specs.declared.Kind.TheVariants.{Eit}
-use Rattle.kind.specs.Kinds.{limitsOf, onlyOf}
+use Rattle.kind.specs.Kinds.{limits_of, only_of}
 use Rattle.part.specs.Parts.{bytes_in}
 use Rattle.text.specs.Strings.{string_units, string_replaced}
 use Rattle.eit.specs.declared.event.Title.{Title}
@@ -47,7 +47,7 @@ units_told (refused_title k) = []
 units_told (text us replaced) = us
 
 -- four numbers: its sort (1 no title, 2 no strings, 3 text, and else the number that refuses it, 10 or 11); where its units begin, how many
--- they are, how many of its segments were replaced. Where the title has no text the last three are `noValue`, which is not 0
+-- they are, how many of its segments were replaced. Where the title has no text the last three are `no_value`, which is not 0
 unfoldable pub blank_row : ℕ → List ℕ
 blank_row sort = sort ∷ no_value ∷ no_value ∷ no_value ∷ []
 
@@ -72,10 +72,10 @@ title_rows_from s n (suc k) a =
 -- ---- a section
 -- how many events it has, and where the first begins
 abbrev pub event_count : List ℕ → ℕ
-event_count s = count_at s (limitsOf Eit).body
+event_count s = count_at s (limits_of Eit).body
 
 abbrev pub first_event : ℕ
-first_event = first_at (limitsOf Eit).body
+first_event = first_at (limits_of Eit).body
 
 -- how many events and units there are
 pub record Counts : Type 0 where
@@ -92,7 +92,7 @@ titles_in s rows units =
     room_for_titles (record { events = event_count s; units = length (units_from s (event_count s) first_event) }) rows units
 
 unfoldable pub titles_of : List ℕ → ℕ → ℕ → Outcome Counts
-titles_of s rows units = after (section_by (onlyOf Eit) s) (λ h. titles_in s rows units)
+titles_of s rows units = after (section_by (only_of Eit) s) (λ h. titles_in s rows units)
 
 -- the two lists afterwards: what was asked for is stored from the beginning on, and nothing else changes
 unfoldable pub with_title_rows : List ℕ → Outcome Counts → List ℕ → List ℕ

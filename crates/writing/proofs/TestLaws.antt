@@ -11,7 +11,7 @@ use Rattle.refusal.specs.Outcomes.{Outcome, refused, resulted, after, or_refuse}
 use Rattle.refusal.specs.Outputs.{counted}
 use Rattle.refusal.proofs.OutcomeLaws.{same_result, went_on}
 use Rattle.kind.specs.declared.Kind.{Kind}
-use Rattle.kind.specs.Kinds.{limitsOf}
+use Rattle.kind.specs.Kinds.{limits_of}
 use Rattle.section.specs.declared.write.Given.{Given}
 use Rattle.section.specs.Encoding.{encode_with}
 use Rattle.section.specs.Writing.{header_given, header_fits, length_fits}
@@ -42,14 +42,14 @@ told_length k room s n l e =
     e ∙ ap (λ m. or_refuse 24 (length_fits k room m) (resulted m)) (sym l) ∙ counted_or (length_fits k room (length s)) s
 
 -- a section that came to a result has room
-module _ (k : Kind) (g : Given) (body : List ℕ) (n room : ℕ) (small : (limitsOf k).largest ≤ 4093) (size : length body ≡ n) where
+module _ (k : Kind) (g : Given) (body : List ℕ) (n room : ℕ) (small : (limits_of k).largest ≤ 4093) (size : length body ≡ n) where
   pub has_room : (s : List ℕ) → header_fits g ≡ true → allowed k room (encode_with k (header_given g) body) ≡ resulted s
       → Fits g n room × (encode_with k (header_given g) body ≡ s)
   unfolding allowed length_fits
   has_room s h e =
       let m = length (encode_with k (header_given g) body) in
       let w = went_on 24 (length_fits k room m) _ s e in
-      let l = leb-true m ((limitsOf k).largest + 3) (and_left _ _ w.0) in
+      let l = leb-true m ((limits_of k).largest + 3) (and_left _ _ w.0) in
       let r = leb-true m room (and_right _ _ w.0) in
       let z = encoded_size k (header_given g) body in
       (record { header = h; largest = omega arith; room = omega arith }, same_result _ _ w.1)

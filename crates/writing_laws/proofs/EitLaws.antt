@@ -10,6 +10,7 @@ use Rattle.logic.proofs.LoopLaws.{and_left, and_right, and_i}
 use Rattle.bytes_at.specs.declared.Walk.TheVariants.{To}
 use Rattle.refusal.specs.Outcomes.{resulted}
 use Rattle.kind.specs.declared.Kind.TheVariants.{Eit}
+use Rattle.format.proofs.KeptLaws.{laws}
 use Rattle.format.specs.Repeats.{Bytes, All, encs}
 use Rattle.format.specs.Formats.{Filling, any_bytes}
 use Rattle.format.specs.Values.{One, Fit, bytes_of}
@@ -101,7 +102,7 @@ module _ (g : Given) (count : ℕ) (rows bytes : List ℕ) (room : ℕ) (z : Byt
 part_passes : (f : Filling One) (bytes : List ℕ) (p : Part) (x : f.Val) → f.Ok (record {}) x → end_of p ≤ length bytes → f.enc x ≡ bytes_in bytes p
     → part_sound f bytes p ≡ true
 part_passes f bytes p x o h e =
-    let w = (own_bytes f (record {}) (f.enc x) ((f.law (record {})).bytes x o)).1 (x, (o, refl)) in
+    let w = (own_bytes f (record {}) (f.enc x) ((f.law laws (record {})).bytes x o)).1 (x, (o, refl)) in
     sym (part_told f bytes p {t = f.enc x} {w = To w.0} {r = true} h e (sym w.1) refl)
 
 -- what an event as bytes is where its row gives it

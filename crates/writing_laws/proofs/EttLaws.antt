@@ -11,7 +11,8 @@ use Rattle.logic.proofs.LoopLaws.{and_left, and_right, and_i}
 use Rattle.refusal.specs.Outcomes.{resulted}
 use Rattle.refusal.proofs.OutcomeLaws.{same_result, went_on}
 use Rattle.kind.specs.declared.Kind.TheVariants.{Ett}
-use Rattle.kind.specs.Kinds.{limitsOf, onlyOf}
+use Rattle.kind.specs.Kinds.{limits_of, only_of}
+use Rattle.format.proofs.KeptLaws.{laws}
 use Rattle.format.specs.Lawful.{Lies}
 use Rattle.format.specs.Repeats.{Bytes}
 use Rattle.format.specs.Formats.{walks_all}
@@ -55,7 +56,7 @@ structure_full y o = counting_full [] 0 refl string (record {}, y) o
 structure_stands : (y : structure.Val) → structure.Ok (record {}) y
     → stands (walks_all text (structure.enc y) (length (structure.enc y)) 0) ≡ true
 unfolding text as_text
-structure_stands y o = ap stands ((own_bytes text (record {}) (structure.enc y) ((structure.law (record {})).bytes y o)).1 (as_text y, (o, refl))).1
+structure_stands y o = ap stands ((own_bytes text (record {}) (structure.enc y) ((structure.law laws (record {})).bytes y o)).1 (as_text y, (o, refl))).1
 
 -- ---- what is written is the encoding of the record given
 abbrev body_for : ℕ → structure.Val → EttFields
@@ -114,7 +115,7 @@ writes_ett g etm t room z s = (
 module _ (y : Section Ett) (o : WellFormed Ett y) where
   text_lies : Lies (structure.enc y.body.text) (encode y) 13
   unfolding text as_text
-  text_lies = (as_text_lies (encode y) (limitsOf Ett).body (length (encode y) - 4) y.body o.body (body_lies Ett y o) (body_ends Ett y o)).1
+  text_lies = (as_text_lies (encode y) (limits_of Ett).body (length (encode y) - 4) y.body o.body (body_lies Ett y o) (body_ends Ett y o)).1
 
 module _ (write : EttWriter) (w : WritesEtt write) where
   pub reads_back_ett : ReadsBackEtt write
@@ -126,7 +127,7 @@ module _ (write : EttWriter) (w : WritesEtt write) where
       let n = v.id in
       let l = v.text in
       record {
-        header = ap (section_by (onlyOf Ett)) u.1.1 ∙ accepts Ett y v.good ∙ ap resulted (header_read_lem Ett g y h);
+        header = ap (section_by (only_of Ett)) u.1.1 ∙ accepts Ett y v.good ∙ ap resulted (header_read_lem Ett g y h);
         fields = ap fields_of u.1.1 ∙ ett_reads_lem.tells y v.good
             ∙ (λ i. resulted (record { extension = (h i).extension; etm_id = n i; text = ett_text_place (l i) }));
         text = ap (λ s. bytes_in s (ett_text_place t)) u.1.1 ∙ subst (λ t. bytes_in (encode y) (ett_text_place t) ≡ t) l (text_lies y v.good);
@@ -135,7 +136,7 @@ module _ (write : EttWriter) (w : WritesEtt write) where
   pub ett_again : (y : Section Ett) → WellFormed Ett y → OnesHeader y → (room : ℕ) → length (encode y) ≤ room
       → write (given_of (header_of y)) y.body.etm (structure.enc y.body.text) room ≡ resulted (encode y)
   ett_again y o a room m =
-      (w (given_of (header_of y)) y.body.etm (structure.enc y.body.text) room ((structure.law (record {})).bytes y.body.text o.body.1) (encode y)).1
+      (w (given_of (header_of y)) y.body.etm (structure.enc y.body.text) room ((structure.law laws (record {})).bytes y.body.text o.body.1) (encode y)).1
       ((y, (record { good = o; header = header_back Ett y a; id = refl; text = refl }, refl)), m)
 
   pub rewrites_ett : RewritesEtt write
@@ -144,8 +145,8 @@ module _ (write : EttWriter) (w : WritesEtt write) where
       let o = u.1.0.0 in
       let e = u.1.1 in
       let n = ap length e in
-      let p : h ≡ header_of y = same_result h (header_of y) (sym q ∙ ap (section_by (onlyOf Ett)) e ∙ accepts Ett y o) in
-      let t : f ≡ fields_for y.header.extension (limitsOf Ett).body y.body = same_result f _ (sym r ∙ ap fields_of e ∙ ett_reads_lem.tells y o) in
+      let p : h ≡ header_of y = same_result h (header_of y) (sym q ∙ ap (section_by (only_of Ett)) e ∙ accepts Ett y o) in
+      let t : f ≡ fields_for y.header.extension (limits_of Ett).body y.body = same_result f _ (sym r ∙ ap fields_of e ∙ ett_reads_lem.tells y o) in
       (λ i. write (given_of (p i)) (t i).etm_id (bytes_in (e i) (t i).text) room)
       ∙ ap (λ l. write (given_of (header_of y)) y.body.etm l room) (text_lies y o) ∙ ett_again y o u.1.0.1 room (omega arith)
       ∙ ap resulted (sym e)

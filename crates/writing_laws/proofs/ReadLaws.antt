@@ -6,7 +6,7 @@ use native.Mathlib.Omega.{arith}
 use lib.ListN.{length}
 use Rattle.refusal.specs.Outcomes.{Outcome, refused, resulted}
 use Rattle.kind.specs.declared.Kind.TheVariants.{Eit}
-use Rattle.kind.specs.Kinds.{onlyOf}
+use Rattle.kind.specs.Kinds.{only_of}
 use Rattle.format.specs.Lawful.{Lies}
 use Rattle.format.specs.Listed.{nth_of}
 use Rattle.format.proofs.ListedLaws.{Stand, first_lies, rest_stand}
@@ -81,7 +81,7 @@ module _ (write : EitWriter) (w : WritesEit write) where
       let h = v.header in
       let n = events_are g count rows bytes y v in
       record {
-        header = ap (section_by (onlyOf Eit)) u.1.1 ∙ accepts Eit y v.good ∙ ap resulted (header_read_lem Eit g y h);
+        header = ap (section_by (only_of Eit)) u.1.1 ∙ accepts Eit y v.good ∙ ap resulted (header_read_lem Eit g y h);
         fields = ap fields_of u.1.1 ∙ eit_reads_lem.tells y v.good ∙ (λ i. resulted (record { source = (h i).extension; count = n.0 i }));
         events = λ i l.
             let x = row_stands rows bytes (encode y) _ _ 0 y.body.events (entries_stand Event y v.good) n.1 i (omega (arith, n.0)) in

@@ -10,7 +10,7 @@ use Rattle.logic.proofs.LoopLaws.{and_left, and_right, and_i}
 use Rattle.refusal.specs.Outcomes.{Outcome, resulted, or_refuse}
 use Rattle.refusal.proofs.OutcomeLaws.{same_result, went_on}
 use Rattle.kind.specs.declared.Kind.{Kind}
-use Rattle.kind.specs.Kinds.{limitsOf}
+use Rattle.kind.specs.Kinds.{limits_of}
 use Rattle.section.specs.declared.write.Given.{Given}
 use Rattle.section.specs.Bodies.{body_format}
 use Rattle.section.specs.Encoding.{Section, length_with, encode, WellFormed, OnesHeader, header_of}
@@ -28,13 +28,13 @@ passes n t o x e f = rw e f
 
 -- ---- the length
 pub fitted : (k : Kind) (room : ℕ) (x s : List ℕ) → allowed k room x ≡ resulted s
-    → (s ≡ x) × ((length x ≤ (limitsOf k).largest + 3) × (length x ≤ room))
+    → (s ≡ x) × ((length x ≤ (limits_of k).largest + 3) × (length x ≤ room))
 unfolding allowed length_fits
 fitted k room x s e =
     let p = went_on 24 _ _ s e in
     (sym (same_result x s p.1), (leb-true _ _ (and_left _ _ p.0), leb-true _ _ (and_right _ _ p.0)))
 
-pub fits : (k : Kind) (room : ℕ) (x : List ℕ) → length x ≤ (limitsOf k).largest + 3 → length x ≤ room → allowed k room x ≡ resulted x
+pub fits : (k : Kind) (room : ℕ) (x : List ℕ) → length x ≤ (limits_of k).largest + 3 → length x ≤ room → allowed k room x ≡ resulted x
 unfolding allowed length_fits
 fits k room x h m = passes 24 _ _ (resulted x) (and_i _ _ (le-leb _ _ h) (le-leb _ _ m)) refl
 
@@ -44,8 +44,8 @@ abbrev pub given : (k : Kind) → Given → (body_format k).Val → Section k
 given k g b = record { header = header_given g; body = b }
 
 module _ (k : Kind) (g : Given) (b : (body_format k).Val) where
-  pub well_formed : header_fits g ≡ true → numbers_fit k g ≡ true → (limitsOf k).smallest ≤ length_with (length ((body_format k).enc b))
-      → length (encode (given k g b)) ≤ (limitsOf k).largest + 3 → (body_format k).Ok (record {}) b → WellFormed k (given k g b)
+  pub well_formed : header_fits g ≡ true → numbers_fit k g ≡ true → (limits_of k).smallest ≤ length_with (length ((body_format k).enc b))
+      → length (encode (given k g b)) ≤ (limits_of k).largest + 3 → (body_format k).Ok (record {}) b → WellFormed k (given k g b)
   unfolding numbers_fit
   well_formed e f small large o =
       let r = header_room g e in
@@ -74,7 +74,7 @@ module _ (k : Kind) (g : Given) (b : (body_format k).Val) where
   unfolding numbers_fit
   numbers_pass o = and_i _ _ (le-leb _ _ o.ordered) (le-leb _ _ o.last)
 
-  pub largest_holds : WellFormed k (given k g b) → length (encode (given k g b)) ≤ (limitsOf k).largest + 3
+  pub largest_holds : WellFormed k (given k g b) → length (encode (given k g b)) ≤ (limits_of k).largest + 3
   largest_holds o = let n = o.largest in omega (arith, encoded_size k (header_given g) ((body_format k).enc b))
 
 -- a record whose header is as given

@@ -4,7 +4,7 @@ use Rattle.std.specs.Prelude.{ℕ, ◌*◌, ◌≤◌, ◌<◌, ◌≡◌, ◌�
 use Rattle.refusal.specs.Outcomes.{Outcome, resulted}
 use Rattle.kind.specs.declared.Kind.{Kind}
 use Rattle.kind.specs.declared.Kind.TheVariants.{Eit, Ett}
-use Rattle.kind.specs.Kinds.{limitsOf, onlyOf}
+use Rattle.kind.specs.Kinds.{limits_of, only_of}
 use Rattle.format.specs.Repeats.{Bytes}
 use Rattle.format.specs.Values.{behind}
 use Rattle.format.specs.Listed.{all_of}
@@ -67,10 +67,10 @@ WritesEtt write =
 
 -- it reads as given: the header, ETM_id, and the text by its bytes
 abbrev pub ett_text_place : List ℕ → Part
-ett_text_place t = record { start = behind etm_head (limitsOf Ett).body; length = length t }
+ett_text_place t = record { start = behind etm_head (limits_of Ett).body; length = length t }
 
 pub record ReadsAsEtt (g : Given) (etm : ℕ) (t s : List ℕ) : Type 0 where
-  pub header : section_by (onlyOf Ett) s ≡ resulted (header_read Ett g)
+  pub header : section_by (only_of Ett) s ≡ resulted (header_read Ett g)
   pub fields : etts.fields_of s ≡ resulted (record { extension = g.extension; etm_id = etm; text = ett_text_place t })
   pub text : bytes_in s (ett_text_place t) ≡ t
 
@@ -81,7 +81,7 @@ ReadsBackEtt write =
 -- an accepted section whose reserved bits are ones is written again from what is read of it
 abbrev pub RewritesEtt : EttWriter → Type 0
 RewritesEtt write =
-    (s : List ℕ) (h : Header) (f : EttTable) → section_by (onlyOf Ett) s ≡ resulted h → etts.fields_of s ≡ resulted f → EncodingOf EttWithOnes s
+    (s : List ℕ) (h : Header) (f : EttTable) → section_by (only_of Ett) s ≡ resulted h → etts.fields_of s ≡ resulted f → EncodingOf EttWithOnes s
     → (room : ℕ) → length s ≤ room → write (given_of h) f.etm_id (bytes_in s f.text) room ≡ resulted s
 
 -- ---- an EIT, given by a header, a count, and for each event a row of eight numbers with places in one list of bytes
@@ -121,7 +121,7 @@ pub record ReadsAsRow (rows bytes s : List ℕ) (i : ℕ) : Type 0 where
   pub list : bytes_in s (descriptors_place at event) ≡ bytes_in bytes (list_given rows (8 * i))
 
 pub record ReadsAsEit (g : Given) (count : ℕ) (rows bytes s : List ℕ) : Type 0 where
-  pub header : section_by (onlyOf Eit) s ≡ resulted (header_read Eit g)
+  pub header : section_by (only_of Eit) s ≡ resulted (header_read Eit g)
   pub fields : eits.fields_of s ≡ resulted (record { source = g.extension; count = count })
   pub events : (i : ℕ) → i < count → ReadsAsRow rows bytes s i
 
@@ -138,7 +138,7 @@ event_rows y = all_of event_format.enc row_for (begin_of Event y) (entries_of Ev
 -- events there are, and their rows
 abbrev pub RewritesEit : EitWriter → Type 0
 RewritesEit write =
-    (y : Section Eit) (h : Header) (f : EitTable) → section_by (onlyOf Eit) (encode y) ≡ resulted h → eits.fields_of (encode y) ≡ resulted f → EitWithOnes y
+    (y : Section Eit) (h : Header) (f : EitTable) → section_by (only_of Eit) (encode y) ≡ resulted h → eits.fields_of (encode y) ≡ resulted f → EitWithOnes y
     → (room : ℕ) → length (encode y) ≤ room → write (given_of h) f.count (event_rows y) (encode y) room ≡ resulted (encode y)
 
 -- ---- what the two writers of a library promise

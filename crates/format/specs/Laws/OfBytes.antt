@@ -8,9 +8,9 @@ use Rattle.std.proofs.Math.ListN.{get_or-eq_default}
 use Rattle.bytes_at.specs.declared.Walk.TheVariants.{To, Bad}
 use Rattle.logic.specs.Choices.{pick}
 use Rattle.bytes_at.specs.Fields.{byte_at}
-use Rattle.bytes_at.specs.Walks.{skip_to, bits_to, fields_to}
-use Rattle.bytes_at.proofs.WalkLaws.{to_is, never, skipped, skip_fits, bits_on, bits_done}
-use Rattle.format.specs.Lawful.{Walker, Lies, Lawful, total}
+use Rattle.bytes_at.specs.Walks.{skip_to, bits_to}
+use Rattle.bytes_at.proofs.WalkLaws.{never, skipped, skip_fits}
+use Rattle.format.specs.Lawful.{Walker, Lies, Lawful}
 use Rattle.format.specs.Repeats.{Bytes}
 
 -- ---- lists that stand in a section
@@ -78,32 +78,10 @@ unfolding bits_to
 bits_begin n ns p end b e = ⊎_elim (λ t. (leb-true (p + n) (8 * end) t.0, t.1)) (λ t. never (p / 8) b t.1)
     (pick_inv (leb (p + n) (8 * end)) (bits_to ns (p + n) end) (Bad (p / 8)) (To b) e)
 
-bits_fit : (ns : List ℕ) (p end : ℕ) → p + total ns ≤ 8 * end → To ((p + total ns) / 8) ≡ bits_to ns p end
-bits_fit [] p end h = bits_done p end _ (ap (λ n. n / 8) (omega arith))
-bits_fit (n ∷ ns) p end h =
-    bits_on n ns p end (omega arith) (ap (λ m. To (m / 8)) (omega arith) ∙ bits_fit ns (p + n) end (omega arith))
-
-bits_took : (ns : List ℕ) (p end b : ℕ) → p ≤ 8 * end → bits_to ns p end ≡ To b
-    → (b ≡ (p + total ns) / 8) × (p + total ns ≤ 8 * end)
-bits_took [] p end b h e = (to_is (p / 8) b (bits_done p end (p / 8) refl ∙ e) ∙ ap (λ n. n / 8) (omega arith), omega arith)
-bits_took (n ∷ ns) p end b h e =
-    let t = bits_begin n ns p end b e in
-    let u = bits_took ns (p + n) end b t.0 t.1 in
-    (u.0 ∙ ap (λ m. m / 8) (omega arith), omega arith)
-
-module _ (ns : List ℕ) (k : ℕ) (whole : total ns ≡ 8 * k) (at end : ℕ) where
-  pub fields_fit : at + k ≤ end → fields_to ns at end ≡ To (at + k)
-  unfolding fields_to
-  fields_fit h = sym (bits_fit ns (8 * at) end (omega arith)) ∙ ap To (omega arith)
-
-  pub fields_took : (b : ℕ) → at ≤ end → fields_to ns at end ≡ To b → (b ≡ at + k) × (b ≤ end)
-  unfolding fields_to
-  fields_took b h e = let t = bits_took ns (8 * at) end b (omega arith) e in (omega arith, omega arith)
-
 -- ---- bytes that are taken as they are
 module _ (k : ℕ) (W : Walker) (fit : (s : List ℕ) (end at : ℕ) → at + k ≤ end → W s end at ≡ To (at + k))
     (took : (s : List ℕ) (end at e : ℕ) → at ≤ end → W s end at ≡ To e → (e ≡ at + k) × (e ≤ end)) where
-  bytes_law : Lawful {X = List ℕ} W (λ x. (length x ≡ k) × Bytes x) (λ x. x)
+  pub bytes_law : Lawful {X = List ℕ} W (λ x. (length x ≡ k) × Bytes x) (λ x. x)
   bytes_law = record {
     sound = λ s end at x o l h. rw o.0 (fit s end at (omega arith));
     complete = λ s end at e h m z w.
@@ -114,11 +92,6 @@ module _ (k : ℕ) (W : Walker) (fit : (s : List ℕ) (end at : ℕ) → at + k 
     within = λ s end at e h w. let a = took s end at e h w in (omega arith, a.1);
     bytes = λ x o. o.1;
   }
-
-pub fields_law : (ns : List ℕ) (k : ℕ) → total ns ≡ 8 * k
-    → Lawful {X = List ℕ} (λ s end at. fields_to ns at end) (λ x. (length x ≡ k) × Bytes x) (λ x. x)
-fields_law ns k whole =
-    bytes_law k _ (λ s end at. fields_fit ns k whole at end) (λ s end at. fields_took ns k whole at end)
 
 pub raw_law : (back n : ℕ)
     → Lawful {X = List ℕ} (λ s end at. skip_to back at n end) (λ x. (length x ≡ n) × Bytes x) (λ x. x)

@@ -1,12 +1,12 @@
 -- Laws of formats that take their whole container, and of containers whose length is told.
-use Rattle.std.specs.Prelude.{ℕ, ◌+◌, ◌-◌, ◌≤◌, ◌<◌, ◌≡◌, refl, ◌⊎◌, List, [], ◌++◌, Bool, true, false, length, take, drop, eqb}
-use Rattle.std.proofs.Common.{sym, ap, ◌∙◌, inl, inr, ⊎_elim, arith, length-append, eqb-true, eq-eqb, ne_eqb}
-use Rattle.std.proofs.Math.Option.{Option, none, some}
+use Rattle.std.specs.Prelude.{ℕ, ◌+◌, ◌-◌, ◌≤◌, ◌≡◌, refl, ◌⊎◌, List, ◌++◌, Bool, true, false, length, take, drop, eqb}
+use Rattle.std.proofs.Common.{sym, ap, ◌∙◌, inl, inr, ⊎_elim, arith, length-append}
+use Rattle.std.proofs.Math.Option.{Option}
 use Rattle.bytes_at.specs.declared.Walk.TheVariants.{To}
 use Rattle.logic.specs.Choices.{pick}
 use Rattle.bytes_at.specs.Walks.{skip_to, then, ends}
-use Rattle.bytes_at.proofs.WalkLaws.{to_is, then_to, then_inv, skipped, skip_fits, ends_at, ended}
-use Rattle.format.specs.Lawful.{Walker, Lies, Lawful, Fills}
+use Rattle.bytes_at.proofs.WalkLaws.{to_is, then_to, then_inv, skipped, skip_fits}
+use Rattle.format.specs.Lawful.{Walker, Lies, Lawful, Fills, NotEmpty}
 use Rattle.format.specs.Repeats.{Bytes, OkOpt, enc_opt, OkSum, enc_sum}
 use Rattle.format.specs.Laws.OfBytes.{pick_inv, same_front, after, bytes_append, lies_at, lies_join, lies_split, part_bytes, part_length, part_lies}
 
@@ -32,23 +32,13 @@ module _ {X : Type 0} {F : Walker} {Ok : X → Type 0} {enc : X → List ℕ} (b
     bytes = λ x o. f.bytes x o.1;
   }
 
--- ---- a format that tells where it ends, and nothing after it
+-- ---- a format that tells where it ends, and nothing after it: what is to hold (proofs/ContainerLaws.antt)
 module _ {X : Type 0} {A : Walker} {Ok : X → Type 0} {enc : X → List ℕ} (a : Lawful A Ok enc) where
-  exact_whole : (s : List ℕ) (end at e : ℕ) → then (A s end at) (ends end) ≡ To e → (A s end at ≡ To end) × (e ≡ end)
-  exact_whole s end at e w =
-      let p = then_inv _ _ e w in
-      let t = ended end p.0 e p.1.1 in
-      (p.1.0 ∙ ap To t.0, t.1)
+  abbrev pub ExactWhole : Type 0
+  ExactWhole = (s : List ℕ) (end at e : ℕ) → then (A s end at) (ends end) ≡ To e → (A s end at ≡ To end) × (e ≡ end)
 
-  pub exact_law : Fills {X = X} (λ s end at. then (A s end at) (ends end)) Ok enc
-  exact_law = record {
-    sound = λ s end at x o l h.
-        then_to _ _ (at + length (enc x)) _ (a.sound s end at x o l (omega arith)) (ends_at end _ (omega arith));
-    complete = λ s end at h m z w. a.complete s end at end h m z (exact_whole s end at end w).0;
-    unique = λ x y o r e. a.unique x y [] [] o r (ap (λ l. l ++ []) e);
-    whole = λ s end at e w. (exact_whole s end at e w).1;
-    bytes = a.bytes;
-  }
+  abbrev pub ExactLaw : Type 0
+  ExactLaw = Fills {X = X} (λ s end at. then (A s end at) (ends end)) Ok enc
 
 -- ---- a format that tells where it ends, and one that takes the rest of the container
 module _ {X Y : Type 0} {A B : Walker} {OkA : X → Type 0} {OkB : Y → Type 0} {encA : X → List ℕ} {encB : Y → List ℕ}
@@ -109,39 +99,10 @@ any_law = record {
   bytes = λ x o. o;
 }
 
--- ---- nothing, or a format none of whose values is empty
-module _ {X : Type 0} {F : Walker} {Ok : X → Type 0} {enc : X → List ℕ} (f : Fills F Ok enc)
-    (full : (x : X) → Ok x → 0 < length (enc x)) where
-  opt_sound : (s : List ℕ) (end at : ℕ) (x : Option X) → OkOpt Ok x → Lies (enc_opt enc x) s at → end ≡ at + length (enc_opt enc x)
-      → pick (eqb at end) (To at) (F s end at) ≡ To end
-  opt_sound s end at none o l h = rw (eq-eqb at end (omega arith)) (ap To (omega arith))
-  opt_sound s end at (some x) o l h = rw (ne_eqb at end (λ z. omega (arith, full x o))) (f.sound s end at x o l h)
-
-  opt_complete : (s : List ℕ) (end at : ℕ) → at ≤ end → end ≤ length s → Bytes s → pick (eqb at end) (To at) (F s end at) ≡ To end
-      → (x : Option X) × (OkOpt Ok x × (Lies (enc_opt enc x) s at × (end ≡ at + length (enc_opt enc x))))
-  opt_complete s end at h m z w = ⊎_elim
-      (λ t. let v = eqb-true at end t.0 in (none, (record {}, (refl, omega arith))))
-      (λ t. let u = f.complete s end at h m z t.1 in (some u.0, u.1))
-      (pick_inv (eqb at end) (To at) (F s end at) (To end) w)
-
-  opt_unique : (x y : Option X) → OkOpt Ok x → OkOpt Ok y → enc_opt enc x ≡ enc_opt enc y → x ≡ y
-  opt_unique none none o r e = refl
-  opt_unique none (some y) o r e = absurd (omega (arith, ap length e, full y r))
-  opt_unique (some x) none o r e = absurd (omega (arith, ap length e, full x o))
-  opt_unique (some x) (some y) o r e = ap some (f.unique x y o r e)
-
-  opt_whole : (s : List ℕ) (end at e : ℕ) → pick (eqb at end) (To at) (F s end at) ≡ To e → e ≡ end
-  opt_whole s end at e w = ⊎_elim
-      (λ t. to_is at e t.1 ∙ eqb-true at end t.0)
-      (λ t. f.whole s end at e t.1)
-      (pick_inv (eqb at end) (To at) (F s end at) (To e) w)
-
-  opt_bytes : (x : Option X) → OkOpt Ok x → Bytes (enc_opt enc x)
-  opt_bytes none o = λ i. omega arith
-  opt_bytes (some x) o = f.bytes x o
-
-  pub opt_law : Fills {X = Option X} (λ s end at. pick (eqb at end) (To at) (F s end at)) (OkOpt Ok) (enc_opt enc)
-  opt_law = record { sound = opt_sound; complete = opt_complete; unique = opt_unique; whole = opt_whole; bytes = opt_bytes }
+-- ---- nothing, or a format none of whose values is empty: what is to hold (proofs/ContainerLaws.antt)
+module _ {X : Type 0} {F : Walker} {Ok : X → Type 0} {enc : X → List ℕ} (f : Fills F Ok enc) (full : NotEmpty Ok enc) where
+  abbrev pub OptLaw : Type 0
+  OptLaw = Fills {X = Option X} (λ s end at. pick (eqb at end) (To at) (F s end at)) (OkOpt Ok) (enc_opt enc)
 
 -- ---- one format or another, by a test on what is told
 differ : {A : Type 0} {t : Bool} → t ≡ true → t ≡ false → A

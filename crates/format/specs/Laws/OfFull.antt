@@ -1,5 +1,5 @@
 -- What has a head is not empty.
-use Rattle.std.specs.Prelude.{ℕ, suc, ◌+◌, ◌-◌, ◌*◌, ◌^◌, ◌<◌, ◌≡◌, refl, List, [], ◌∷◌, length}
+use Rattle.std.specs.Prelude.{ℕ, suc, ◌+◌, ◌*◌, ◌^◌, ◌<◌, ◌≡◌, refl, List, [], ◌∷◌, length}
 use Rattle.std.proofs.Common.{arith, length-append}
 use Rattle.format.specs.Formats.{Format, Filling, Reader, last_byte, last_but_one, both, Full, filled_by, times}
 use Rattle.format.specs.Values.{One, Field, bits, width, Vals, number, head_bytes}

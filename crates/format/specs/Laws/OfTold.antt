@@ -6,12 +6,13 @@ use Rattle.bytes_at.specs.Fields.{byte_at, word_at}
 use Rattle.format.specs.Lawful.{Lies, total}
 use Rattle.format.specs.Repeats.{Bytes}
 use Rattle.format.specs.Laws.OfBytes.{lies_at, lies_split}
+use Rattle.format.specs.Laws.Statements.{Laws}
 use Rattle.format.specs.Formats.{Format, Reader, last_byte, last_but_one, last_word, both, through}
 use Rattle.bytes_at.specs.Bits.{bits_at}
 use Rattle.bytes_at.proofs.BitLaws.{bits_lt, bits_add, bits_low, byte_bits_lem, word_bits}
 use Rattle.format.specs.Values.{Field, bits, width, Vals, Fit, number, bytes_of, head_bytes}
 use Rattle.format.specs.Heads.{steps, vals_at, Tells, OkTold}
-use Rattle.format.specs.Laws.OfValues.{pair_lt, pair_same, steps_width, number_lt, number_once, vals_fit, vals_number, bytes_length, bytes_bytes, lies_number, bytes_part}
+use Rattle.format.specs.Laws.OfValues.{pair_lt, pair_same, number_lt, number_once, vals_fit, vals_number, bytes_length, bytes_bytes, lies_number, bytes_part}
 
 width_more : (fs : List Field) (n : ℕ) → width (fs ++ (bits n ∷ [])) ≡ width fs + n
 width_more [] n = omega arith
@@ -19,8 +20,8 @@ width_more (f ∷ fs) n = omega (arith, width_more fs n)
 
 -- ---- the head alone
 module _ (fs : List Field) (n k : ℕ) (whole : width fs + n ≡ 8 * k) where
-  pub steps_whole : total (steps (fs ++ (bits n ∷ []))) ≡ 8 * k
-  steps_whole = steps_width (fs ++ (bits n ∷ [])) 0 ∙ omega (arith, width_more fs n)
+  pub steps_whole_by : Laws → total (steps (fs ++ (bits n ∷ []))) ≡ 8 * k
+  steps_whole_by w = w.steps_width (fs ++ (bits n ∷ [])) 0 ∙ omega (arith, width_more fs n)
 
   pub head_below : (v : Vals fs) (t : ℕ) → Fit fs v → t < 2 ^ n → number fs v * 2 ^ n + t < 2 ^ (8 * k)
   head_below v t o h = rw whole at (pair_lt (number fs v) (width fs) n t (number_lt fs v o) h)

@@ -1,15 +1,15 @@
 -- Laws of fields: bytes and values stand for each other, and what is read where the bytes lie is the values.
-use Rattle.std.specs.Prelude.{ℕ, zero, suc, ◌+◌, ◌-◌, ◌*◌, ◌/◌, ◌%◌, ◌^◌, ◌≤◌, ◌<◌, ◌≡◌, refl, List, [], ◌∷◌, length, take, drop}
+use Rattle.std.specs.Prelude.{ℕ, zero, suc, ◌+◌, ◌*◌, ◌/◌, ◌%◌, ◌^◌, ◌≤◌, ◌<◌, ◌≡◌, refl, List, [], ◌∷◌, length, take, drop}
 use Rattle.std.proofs.Common.{sym, ap, ◌∙◌, suc-mul, mul-le-mul_right, mod-lt, add-one, arith, pow_pos, pow-add, shr_lt, drop-cons}
 use Rattle.std.proofs.Math.Pow.{high, low, split}
 use Rattle.bytes_at.specs.Fields.{byte_at}
-use Rattle.format.specs.Lawful.{Lies, total}
+use Rattle.format.specs.Lawful.{Lies}
 use Rattle.format.specs.Repeats.{Bytes}
 use Rattle.format.specs.Laws.OfBytes.{lies_at, lies_split, lies_byte}
 use Rattle.bytes_at.specs.Bits.{bits_at, field_at}
 use Rattle.bytes_at.proofs.BitLaws.{bits_lt, bits_add, byte_bits_lem}
-use Rattle.format.specs.Values.{Field, bits, reserved, piece, bits_of, width, Vals, Fit, number, bytes_of}
-use Rattle.format.specs.Heads.{steps_after, vals_at}
+use Rattle.format.specs.Values.{Field, bits_of, width, Vals, Fit, number, bytes_of}
+use Rattle.format.specs.Heads.{vals_at}
 
 -- ---- two numbers, one of them in the n low bits
 pub pair_lt : (a w n b : ℕ) → a < 2 ^ w → b < 2 ^ n → a * 2 ^ n + b < 2 ^ (w + n)
@@ -22,13 +22,6 @@ pair_same n a b x y h k e = (
 )
 
 -- ---- values and their number
-pub steps_width : (fs : List Field) (n : ℕ) → total (steps_after fs n) ≡ n + width fs
-steps_width [] zero = refl
-steps_width [] (suc n) = omega arith
-steps_width (bits m ∷ fs) n = omega (arith, steps_width fs 0)
-steps_width (reserved m ∷ fs) n = steps_width fs (n + m) ∙ omega arith
-steps_width (piece m ∷ fs) n = steps_width fs (n + m) ∙ omega arith
-
 pub number_lt : (fs : List Field) (v : Vals fs) → Fit fs v → number fs v < 2 ^ width fs
 number_lt [] v o = omega arith
 number_lt (f ∷ fs) v o = pair_lt v.0 (bits_of f) (width fs) (number fs v.1) o.0 (number_lt fs v.1 o.1)

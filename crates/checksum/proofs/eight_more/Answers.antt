@@ -1,0 +1,10 @@
+-- `checksum::eight_more` meets its contract: two numbers of four bytes, the second over the low byte of `a`.
+-- Assumes nothing.
+use Rattle.checksum.proofs.Blocks.{eight_more}
+use Rattle.checksum.proofs.eight_more.Goals as goal
+
+pub returns : goal.returns
+returns c q h =
+    let a = c.args in
+    eight_more 8 q _ _ _ _ _ a.s.now a.at h c.four.ensures c.four-2.ensures c.word_72.ensures
+    c.word_40.ensures

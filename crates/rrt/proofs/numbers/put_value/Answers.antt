@@ -1,0 +1,7 @@
+-- `put_value` meets its contract: the two numbers, and after them the texts.
+use Rattle.rrt.proofs.RowLaws.{value_stored}
+use Rattle.rrt.proofs.numbers.put_value.Goals as goal
+
+pub returns : goal.returns
+returns c =
+    record { next = c.put_texts.ensures.next; puts = value_stored _ _ _ _ _ _ c.put_pair.ensures c.put_texts.ensures.puts }

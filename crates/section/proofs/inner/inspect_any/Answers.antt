@@ -1,0 +1,7 @@
+-- `inspect_any` meets its contract: the header's tests, then the body.
+use Rattle.section.specs.Answers.{verdict_by}
+use Rattle.section.proofs.inner.inspect_any.Goals as goal
+
+pub returns : goal.returns
+unfolding verdict_by
+returns c = rw (← c.header_of_any.ensures) c.with_body.ensures

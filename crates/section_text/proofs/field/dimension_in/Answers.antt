@@ -1,0 +1,13 @@
+-- `dimension_in` meets its contract.
+use Rattle.refusal.specs.Outcomes.{after}
+use Rattle.section_text.specs.Fields.{dimension_name_in}
+use Rattle.section_text.proofs.field.dimension_in.Goals as goal
+
+pub returns-in-Refused : goal.returns-in-Refused
+unfolding dimension_name_in after
+returns-in-Refused c = rw (← c.spot_in.ensures.0, c.in-Refused.is)
+
+pub returns-in-At : goal.returns-in-At
+unfolding dimension_name_in after
+returns-in-At c =
+    rw (← c.spot_in.ensures.0, c.in-At.is, c.dimension_at-dimension.ensures)

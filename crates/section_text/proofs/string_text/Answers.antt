@@ -1,0 +1,17 @@
+-- `string_text` meets its contract: where the text stands, then its bytes; a refusal leaves the output as it was.
+use mathlib.Core.Path.{refl}
+use Rattle.refusal.specs.Outcomes.{after}
+use Rattle.refusal.specs.Outputs.{output_after}
+use Rattle.text.specs.Answers.{amount_of}
+use Rattle.text.specs.Replaced.{told_from}
+use Rattle.text.specs.Texts.{fitting}
+use Rattle.section_text.specs.Texts.{text_units, text_replaced}
+use Rattle.section_text.proofs.string_text.Goals as goal
+
+pub returns-in-Refused : goal.returns-in-Refused
+unfolding text_units text_replaced told_from fitting amount_of output_after after
+returns-in-Refused c = rw (← c.field_of.ensures, c.in-Refused.is) record { answers = refl; writes = refl }
+
+pub returns-in-At : goal.returns-in-At
+unfolding text_units text_replaced told_from after
+returns-in-At c = rw (← c.field_of.ensures, c.in-At.is, ← c.part_of-f.ensures) c.string_text.ensures

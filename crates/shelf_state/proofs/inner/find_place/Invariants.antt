@@ -1,0 +1,13 @@
+-- What holds in the loops of `find_place`.
+use Prim.Native.Nat.{◌-◌, ◌<◌, ◌≤◌, ℕ}
+use mathlib.Core.Path.{◌≡◌}
+use mathlib.Core.Bool.{false}
+use Rattle.shelf_state.specs.Records.{holds}
+use Rattle.shelf_state.specs.Searches.{place_in}
+use Rattle.shelf_state.proofs.inner.find_place.Given as goal
+
+abbrev pub invariant-loop-i : goal.invariant-loop-i
+invariant-loop-i l = (l.i ≤ l.n) × ((j : ℕ) → j < l.i → holds (place_in l.ps j) l.w l.number ≡ false)
+
+abbrev pub decreases-loop-i : goal.decreases-loop-i
+decreases-loop-i l = l.n - l.i

@@ -1,0 +1,18 @@
+-- `row` meets its contract.
+use mathlib.Core.Path.{◌≡◌, sym, ap, ◌∙◌}
+use mathlib.Core.Bool.{Bool, true, false}
+use Prim.Native.Nat.{ℕ}
+use lib.ListN.{get_or}
+use Rattle.steps.specs.Words.{step_words}
+use Rattle.steps.proofs.row.Goals as goal
+
+at : (i : ℕ) {b k : Bool} {r : ℕ} → r ≡ get_or (step_words k) i 0 → b ≡ k → r ≡ get_or (step_words b) i 0
+at i e h = e ∙ sym (ap (λ (x : Bool). get_or (step_words x) i 0) h)
+
+pub returns-then-titles : goal.returns-then-titles
+unfolding step_words
+returns-then-titles c = at c.args.i {k = true} c.row.ensures c.if-titles.true
+
+pub returns-else-titles : goal.returns-else-titles
+unfolding step_words
+returns-else-titles c = at c.args.i {k = false} c.row-else-titles.ensures c.if-titles.false

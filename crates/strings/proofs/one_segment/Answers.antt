@@ -1,0 +1,15 @@
+-- `one_segment` meets its contract.
+use mathlib.Core.List.{[], ◌∷◌}
+use mathlib.Core.Path.{◌∙◌}
+use Rattle.format.proofs.FieldLaws.{pad}
+use Rattle.bytes_at.proofs.WalkLaws.{seq_bad, seq_to}
+use Rattle.strings.specs.Strings.{segment}
+use Rattle.strings.proofs.one_segment.Goals as goal
+
+pub returns-in_default : goal.returns-in_default
+unfolding segment
+returns-in_default c = seq_bad _ (c.skip_fields-w.ensures ∙ pad 8 (8 ∷ 8 ∷ []) 1 _ _) c.in_default.is
+
+pub returns : goal.returns
+unfolding segment
+returns c = seq_to _ (c.skip_fields-w.ensures ∙ pad 8 (8 ∷ 8 ∷ []) 1 _ _) c.in-To.is (rw c.back.ensures.0 at c.skip.ensures)

@@ -1,0 +1,20 @@
+-- `body` meets its contract.
+use mathlib.Core.Path.{sym, ◌∙◌}
+use Rattle.format.proofs.FormatLaws.{then_assoc}
+use Rattle.tvct.specs.Walked.{tvct}
+use Rattle.bytes_at.proofs.WalkLaws.{seq_bad, seq_to}
+use Rattle.tvct.proofs.walk.body.Goals as goal
+
+pub returns-in_default : goal.returns-in_default
+unfolding tvct
+returns-in_default c = seq_bad _ c.all_channels-w.ensures c.in_default.is ∙ sym (then_assoc _ _ _)
+
+pub returns-in_default-v : goal.returns-in_default-v
+unfolding tvct
+returns-in_default-v c = seq_to _ c.all_channels-w.ensures c.in-To.is (seq_bad _ c.whole_list10-v.ensures c.in_default-v.is)
+    ∙ sym (then_assoc _ _ _)
+
+pub returns : goal.returns
+unfolding tvct
+returns c = seq_to _ c.all_channels-w.ensures c.in-To.is (seq_to _ c.whole_list10-v.ensures c.in-To-v.is c.at_end.ensures)
+    ∙ sym (then_assoc _ _ _)
