@@ -1,4 +1,4 @@
-# make test: the gate. Proves and runs everything from nothing, then the comparisons.
+# make test: the gate. Proves and runs everything, then the comparisons.
 # make check: proves what changed.  make fmt: lays the sources out.
 # make core: puts the definitions that are to be believed into target/core.txt, in reading order.
 # make list: builds the lister and lists FILE.
@@ -17,10 +17,10 @@ test:
 	@bash tests/gate.sh
 
 check:
-	@rt check
+	@rt all check
 
 fmt:
-	@rt fmt
+	@for crate in crates/*; do (cd $$crate && rt fmt) || exit 1; done
 
 core:
 	@mkdir -p target
@@ -29,7 +29,7 @@ core:
 
 list:
 	@[ -f "$(FILE)" ] || { echo "make list: there is no file '$(FILE)'"; exit 1; }
-	@[ -e target/guide/lister ] || echo "proving the lister first, which takes 5 to 8 minutes from nothing" >&2
+	@[ -e target/guide/lister ] || echo "proving the lister first, which takes minutes from nothing" >&2
 	@sh tools/lister.sh
 	@target/guide/lister < "$(FILE)"
 

@@ -25,9 +25,9 @@ def functions(text):
     """The lines of each function."""
     name, lines = None, []
     for line in text.splitlines():
-        begun = re.match(r'"?(\w[\w:]*\w)"?:', line)
+        begun = re.match(r'"([^"]+)":|(\w+):', line)
         if begun:
-            name, lines = begun[1], []
+            name, lines = begun[1] or begun[2], []
         elif line.startswith(".Lfunc_end"):
             yield name, lines
         else:
@@ -36,10 +36,10 @@ def functions(text):
 
 def is_in_the_library(arch, crate):
     """Whether the assembly makes, byte for byte, what the library has."""
-    kit, again = subprocess.check_output(["sh", "tools/kit.sh"], text=True).strip(), f"target/bench/stack/{arch}-{crate}.o"
+    tools, again = subprocess.check_output(["sh", "tools/kit.sh"], text=True).strip() + "/toolchain/bin", f"target/bench/stack/{arch}-{crate}.o"
     words = [f"--target={arch}-unknown-linux-gnu", *AS_WRITTEN[arch], "-c", f"target/lib/{arch}/{crate}.s", "-o", again]
-    subprocess.run([f"{kit}/bin/clang", *words], check=True)
-    return Path(again).read_bytes() == subprocess.check_output([f"{kit}/bin/llvm-ar", "p", f"target/lib/{arch}/lib{crate}.a"])
+    subprocess.run([f"{tools}/clang", *words], check=True)
+    return Path(again).read_bytes() == subprocess.check_output([f"{tools}/llvm-ar", "p", f"target/lib/{arch}/lib{crate}.a"])
 
 
 class Code:
@@ -47,7 +47,8 @@ class Code:
 
     def __init__(self, arch):
         self.arch, self.frames, self.below, self.callees, self.heirs, self.known = arch, {}, {}, {}, {}, {}
-        for crate in "guide", "lent":
+        for crate in "guide_c", "lent_c":
+            subprocess.run(["sh", "tools/staticlib.sh", crate, arch], check=True)
             self.read(crate)
             if not is_in_the_library(arch, crate):
                 wrong.append(f"{arch}: the code of {crate} that is counted is not that of the library")
@@ -114,7 +115,7 @@ told = {name: [int(n.replace(",", "")) for n in figures] for name, *figures in t
 if len(calls) < 39 or list(told) != calls:
     wrong.append("the rows of docs/SPEED.md are not the calls of guide.h, in their order")
 for name in calls:
-    crate = "lent" if name.startswith("lent_") else "guide"
+    crate = "lent_c" if name.startswith("lent_") else "guide_c"
     found = [painted["x86_64"].get(name, 0), *(machine.stack((crate, name)) for machine in code)]
     print(f"| `{name}` | {found[0]:,} | {found[1]:,} | {found[2]:,} |")
     if not found[0]:

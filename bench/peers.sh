@@ -16,12 +16,12 @@ made=target/bench/peers
 lib=target/lib/$(uname -m)
 mkdir -p $made
 python3 bench/peers/streams.py $made
-sh tools/staticlib.sh guide
+sh tools/staticlib.sh guide_c
 sh tools/staticlib.sh bench_calls
 others="gstreamer-mpegts-1.0 libdvbpsi libdvbv5"
 gcc -std=gnu11 -O3 -Wall -Wextra -Iinclude -Ibench $(pkg-config --cflags $others) -o $made/peers bench/peers/peers.c bench/peers/ours.c bench/peers/libucsi.c \
-    bench/peers/libdvbpsi.c bench/peers/libdvbv5.c bench/peers/gstreamer.c "$lib/libguide.a" "$lib/libbench_calls.a" -lucsi $(pkg-config --libs $others)
-gcc -std=gnu11 -O3 -Wall -Wextra -Iinclude -Ibench -o $made/texts bench/peers/texts.c "$lib/libguide.a" -lucsi
+    bench/peers/libdvbpsi.c bench/peers/libdvbv5.c bench/peers/gstreamer.c "$lib/libguide_c.a" "$lib/libbench_calls.a" -lucsi $(pkg-config --libs $others)
+gcc -std=gnu11 -O3 -Wall -Wextra -Iinclude -Ibench -o $made/texts bench/peers/texts.c "$lib/libguide_c.a" -lucsi
 $made/peers $made
 echo
 $made/texts $made

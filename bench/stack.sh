@@ -1,7 +1,7 @@
 #!/bin/sh
 # Paints the stack of calls: bench/stack.sh [PROGRAM..], where none is named all of bench/stack/. Run it from the repository's root. The kit's clang makes the
-# programs, with no C library: for x86-64, which every machine runs, by the kit's emulator if need be; and those of guide.h for Arm, where this is an Arm
-# machine or has the emulator qemu-aarch64 (Debian: qemu-user). The lines stand in target/bench/stack/ARCH.txt as well.
+# programs, with no C library: for x86-64, and those of guide.h for Arm, where the machine has the emulator qemu-aarch64 (Debian: qemu-user). The lines stand
+# in target/bench/stack/ARCH.txt as well.
 set -e
 kit=$(sh tools/kit.sh)
 made=target/bench/stack
@@ -9,7 +9,7 @@ mkdir -p $made
 failed=0
 
 paint() { # ARCH PROGRAM LIBRARY [EMULATOR]
-    "$kit/bin/clang" --target=$1-unknown-linux-gnu -std=gnu11 -O2 -Wall -Wextra -ffreestanding -nostdinc -nostdlib -static -fuse-ld=lld \
+    "$kit/toolchain/bin/clang" --target=$1-unknown-linux-gnu -std=gnu11 -O2 -Wall -Wextra -ffreestanding -nostdinc -nostdlib -static -fuse-ld=lld \
         -Ibench -Iinclude -Itests/lent -Itests/bare -o $made/$2 bench/stack/$2.c "$3"
     $4 $made/$2 >$made/$2.txt || failed=1
     sed "s/^/$1 /" $made/$2.txt
@@ -17,23 +17,19 @@ paint() { # ARCH PROGRAM LIBRARY [EMULATOR]
 }
 
 rm -f $made/*.txt
-emulator=
-[ "$(uname -m)" = x86_64 ] || emulator=$kit/bin/qemu-x86_64
-arm=yes
-arm_emulator=
-[ "$(uname -m)" = aarch64 ] || arm_emulator=$(command -v qemu-aarch64) || arm=no
+arm_emulator=$(command -v qemu-aarch64) || true
 for program in ${*:-$(basename -s .c bench/stack/*.c)}; do
     case $program in
     open | close | status | fetch | deliver) # the shelf by value, as it is called from Rattle
         sh tools/staticlib.sh bench_calls x86_64
-        paint x86_64 "$program" target/lib/x86_64/libbench_calls.a $emulator
+        paint x86_64 "$program" target/lib/x86_64/libbench_calls.a
         ;;
     *)
         sh tools/lib.sh x86_64
-        paint x86_64 "$program" target/guide/x86_64/libguide.a $emulator
-        if [ $arm = yes ]; then
+        paint x86_64 "$program" target/guide/x86_64/libguide.a
+        if [ -n "$arm_emulator" ]; then
             sh tools/lib.sh aarch64
-            paint aarch64 "$program" target/guide/aarch64/libguide.a $arm_emulator
+            paint aarch64 "$program" target/guide/aarch64/libguide.a "$arm_emulator"
         fi
         ;;
     esac

@@ -26,7 +26,8 @@ BROKEN = (
 )  # fmt: skip
 SOUND = (
     "let a = [0u8; 64];", "let a = [0; 8];", "struct S { a: [u16; 32] }", "fn f<'a>(s: &'a [u8], t: &'a mut [LentWatch], u: &[kind::Limits]) {}", "s[65]",
-    "f(s)[65]", "// [0u8; 65]", "ghost use a.{[]};", "ensures { [0u8; 65] } {}", "ensures b { [0u8; 65] } {}", "fn f() ghost { [0u8; 65] } {}", "#[no_mangle]",
+    "f(s)[65]", "// [0u8; 65]", "ghost use a.{[]};", "ensures { [0u8; 65] } {}", "ensures b { [0u8; 65] } {}", "fn f() ghost { [0u8; 65] } {}",
+    "#[unsafe(no_mangle)]", "#![tactic(auto)]",
     "const N: usize = 65;", "let a = [1u8, 2, 3,];", "let a = [0u8; 0x40];",
 )  # fmt: skip
 
@@ -99,7 +100,7 @@ def breaks(tokens, constants):
             yield f"constant bytes, {token[:20]}"
         elif token == "const" and "[" in tokens[i : tokens.index(";", i)]:
             yield f"an array for a constant, {tokens[i + 1]}"
-        elif token == "[" and before[-1] not in ("#", ")", "]") and (before[-1] in BEFORE_A_VALUE or not re.match(r"\w", before[-1])):
+        elif token == "[" and before[-1] not in ("#", ")", "]") and before[-2:] != ["#", "!"] and (before[-1] in BEFORE_A_VALUE or not re.match(r"\w", before[-1])):
             inside = tokens[i + 1 : end_of(tokens, i)]
             size = array_size(inside, constants)
             if not is_slice(before, inside) and (size is None or size > MOST):

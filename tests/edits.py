@@ -1,6 +1,7 @@
 #!/usr/bin/env python3
 """Holds the must-fail edits to their rules: at most four a crate, each old line stands exactly once in its file, docs/PROMISES.md names every edit and no other,
-and, where `rt ci` has tried them, none was refused for a name or a shape alone. Run from the repository's root; it prints what is wrong and fails."""
+and each was tried by the run of `rt ci` whose output is named, python3 tests/edits.py OUTPUT, and none was refused for a name or a shape alone. With no output
+named only the first three are looked at. Run from the repository's root; it prints what is wrong and fails."""
 import re
 import sys
 from pathlib import Path
@@ -27,12 +28,14 @@ for name in sorted(set(re.findall(r"`((?:" + "|".join(sorted({n.split("/")[0] fo
     if name not in edits and not (Path("crates") / name).exists():
         wrong.append(f"{name}: docs/PROMISES.md names it, and there is no such edit")
 
-# the first error says what was refused: a name that is not there, or a proof that no longer fits, is no fact
-for name in edits:
-    log = Path("target/must-fail") / name / ".log"
-    errors = re.findall(r": error: (.*)$", log.read_text(), re.M) if log.is_file() else []
-    if errors and re.search(r"not in scope|that can be named from here|has no field|was not admitted|a declaration is", errors[0]):
-        wrong.append(f"{name}: refused for no fact: {errors[0][:120]}")
+# what `rt ci` says first of an edit is what was refused: a name that is not there, or a proof that no longer fits, is no fact
+if len(sys.argv) > 1:
+    said = dict(re.findall(r"^rt: must-fail (\w+/\w+)\.edit: (.*)$", Path(sys.argv[1]).read_text(), re.M))
+    for name in edits:
+        if not said.get(name, "").startswith("refused, as it must be"):
+            wrong.append(f"{name}: not refused: {said.get(name, 'not tried')[:120]}")
+        elif re.search(r"only because a proof file names|not in scope|that can be named from here|has no field|was not admitted|a declaration is", said[name]):
+            wrong.append(f"{name}: refused for no fact: {said[name][:200]}")
 
 for line in wrong:
     print(line)

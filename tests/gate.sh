@@ -1,12 +1,17 @@
 #!/usr/bin/env bash
 # Runs `rt ci`, then every comparison, and repeats `rt ci`'s own last line as the very last one.
-# A comparison that fails ends the run with `FAILED name` and exit 1.
+# A comparison that fails ends the run with `FAILED name` and exit 1, and so does an edit of must-fail/ that could not be tried.
 set -u -o pipefail
 cd "$(dirname "$0")/.."
 
 for tool in rt python3 gcc cargo tee tail timeout diff; do
     command -v "$tool" > /dev/null || { echo "FAILED missing tool: $tool"; exit 1; }
 done
+
+# Where no library stands in an out/ folder before, those that do behind `rt ci` are the ones that it proved, and the libraries for C are built over them.
+# (Where some do, it puts them back as they were, and tools/staticlib.sh has them built anew.)
+PROVED_BY_CI=no
+[ -n "$(find crates -path '*/out/rlib' -print -quit)" ] || PROVED_BY_CI=yes
 
 said=$(mktemp)
 trap 'rm -f "$said"' EXIT
@@ -22,19 +27,25 @@ compare() { # NAME COMMAND..
 }
 
 listed_as() { # EXAMPLE
-    timeout 10 sh tools/run.sh target/bin/lister < "$1.bin" | diff "$1.txt" -
+    timeout 10 crates/lister/out/lister < "$1.bin" | diff "$1.txt" -
 }
+
+edits_are_sound() {
+    grep -q '^rt: ok; ' "$said" && ! grep '^rt: ok; .*, [0-9]* bad' "$said" && python3 tests/edits.py "$said"
+}
+
+export PROVED_BY_CI
+mkdir -p target
 
 for name in test_judging test_reading test_text test_writing test_shelf test_lent; do
     compare "$name" python3 "tests/$name.py" --check
 done
-compare layout rt fmt --check
 compare scope python3 tests/scope.py
 compare rules python3 tests/rules.py
 compare arrays python3 tests/arrays.py
 compare core sh -c 'python3 tools/core.py > target/core.txt'
 compare promises python3 tests/promises.py
-compare edits python3 tests/edits.py
+compare edits edits_are_sound
 compare examples python3 examples/make.py --check
 compare lister_two_eits listed_as examples/two_eits
 compare lister_all_kinds listed_as examples/all_kinds

@@ -2,7 +2,7 @@
 """Holds include/guide.h to the sources: fails where a call, its parameters or their order, the layout of a struct, or a refusal's number differs.
 
 The C side is what the compiler makes of the header: sizes and offsets are asked of gcc. The other side is the text of the crates
-`guide`, `lent`, `lent_memory`, `shelf_state` and `refusal`.
+`guide_c`, `lent_c`, `lent_memory`, `shelf_state` and `refusal`. A call for C must promise, word for word, what the call of `guide` or `lent` that it makes does.
 """
 import os
 import re
@@ -57,16 +57,26 @@ def compiled(lines):
 
 
 # ---- the sources
-def source_calls(crate):
+def functions(crate, before):
+    """Each function of a crate that begins so and answers a u32 with a promise: {name: (its parameters, its clauses, its body)}."""
     folder = os.path.join(ROOT, "crates", crate, "src")
-    calls = {}
-    for name in sorted(os.listdir(folder)):
-        text = text_of("crates", crate, "src", name)
-        for call, words in re.findall(r'#\[no_mangle\]\s+pub extern "C" fn (\w+)\((.*?)\) -> u32\s+ensures', text, flags=re.S):
-            calls[call] = [re.sub(r"\s+", " ", word).strip().split(": ")[1] for word in words.split(",") if word.strip()]
-        if len(re.findall("no_mangle", text)) != len(re.findall(r'#\[no_mangle\]\s+pub extern "C" fn \w+\(.*?\) -> u32\s+ensures', text, flags=re.S)):
-            failed("a call of %s/src/%s does not answer a u32" % (crate, name))
-    return calls
+    found, text = {}, "".join(text_of("crates", crate, "src", name) for name in sorted(os.listdir(folder)))
+    for name, words, clauses, body in re.findall(before + r"fn (\w+)\(([^)]*)\) -> u32\s+(ensures.*?)^\{\n(.*?)^\}", text, flags=re.S | re.M):
+        found[name] = [re.sub(r"\s+", " ", word).strip() for word in words.split(",") if word.strip()], clauses, body
+    return found, text
+
+
+def source_calls(crate):
+    exported, text = functions(crate + "_c", r'#\[unsafe\(no_mangle\)\]\s+pub extern "C" ')
+    if len(exported) != len(re.findall("no_mangle", text)):
+        failed("a call of %s_c does not answer a u32" % crate)
+    own, _ = functions(crate, "^pub ")
+    for name, (parameters, clauses, body) in exported.items():
+        if own.get(name, ())[:2] != (parameters, clauses):
+            failed("%s_c promises otherwise of %s than %s" % (crate, name, crate))
+        if not re.fullmatch(r"\s*%s::(\w+::)?%s\(%s\)\s*" % (crate, name, ", ".join(word.split(": ")[0] for word in parameters)), body):
+            failed("%s of %s_c does more than it hands on" % (name, crate))
+    return {name: [word.split(": ")[1] for word in parameters] for name, (parameters, _, _) in exported.items()}
 
 
 def expected(kind):
@@ -134,7 +144,7 @@ def main():
 
     # refusals by name and number
     names = {re.sub(r"(?<!^)(?=[A-Z])", "_", name).upper(): int(n)
-             for name, n in re.findall(r"^numberOf (\w+) = (\d+)", text_of("crates", "refusal", "specs", "Numbers.antt"), flags=re.M)}
+             for name, n in re.findall(r"^number_of (\w+) = (\d+)", text_of("crates", "refusal", "specs", "Numbers.antt"), flags=re.M)}
     told = {name: int(n) for name, n in re.findall(r"GUIDE_(\w+) = (\d+),", re.search(r"enum guide_refusal \{(.*?)\}", HEADER, flags=re.S).group(1))}
     if told.pop("DONE") != 0 or told != names:
         failed("the refusals differ: %s" % sorted(set(told.items()) ^ set(names.items())))

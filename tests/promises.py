@@ -7,7 +7,7 @@ import sys
 from pathlib import Path
 
 # the crates that a user names (README.md, "What is here"); the others are inner crates, programs, tests and what is measured
-PUBLIC = "section reading writing rows text section_text titles shelf lent guide listing lines record part refusal kind shelf_state".split()
+PUBLIC = "section reading writing rows text section_text titles shelf lent lent_c guide guide_c listing lines record part refusal kind shelf_state".split()
 
 page = Path("docs/PROMISES.md").read_text()
 wrong, entries = [], 0
@@ -25,10 +25,11 @@ def reached(folder, file):
     for module in re.findall(r"^pub mod (\w+);", text, re.M):
         if module != "inner":
             yield from reached(folder / module, folder / f"{module}.rt")
-    for path, name in re.findall(r"^pub use (?:crate::)?([\w:]+)::(\w+);", text, re.M):
+    for path, names in re.findall(r"^pub use (?:crate::)?([\w:]+)::(\w+|\{[^}]*\});", text, re.M):
         crate = Path("crates") / path.split("::")[0] / "src"
-        files = crate.rglob("*.rt") if crate.is_dir() else [folder / (path.replace("::", "/") + ".rt")]
-        yield from (found for source in files for found in functions(source.read_text()) if found[0] == name)
+        files = list(crate.rglob("*.rt")) if crate.is_dir() else [folder / (path.replace("::", "/") + ".rt")]
+        for name in re.findall(r"\w+", names):
+            yield from (found for source in files for found in functions(source.read_text()) if found[0] == name)
 
 
 for crate in PUBLIC:
@@ -43,7 +44,7 @@ for crate in PUBLIC:
             wrong.append(f"{where}: asks something of its caller")
         if not re.search(rf"`(?:[\w]+::)*{name}[`(]", page):
             wrong.append(f"{where}: not in docs/PROMISES.md")
-if entries < 100:
+if entries < 140:
     wrong.append(f"only {entries} entries were found")
 
 for line in wrong:

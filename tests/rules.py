@@ -26,7 +26,7 @@ wrong += [f"{file}: not in docs/RULES.md" for file in sorted(Path("crates").glob
 
 # the theorems, as they are declared
 proofs = "".join(file.read_text() for file in sorted(Path("crates").glob("*/proofs/*.antt")))
-theorems = re.findall(r"`([a-z-]+ : [^`]+)`", page.split("## The signs", 1)[0])
+theorems = re.findall(r"`([a-z_]+ : [^`]+)`", page.split("## The signs", 1)[0])
 wrong += [f"{theorem}: not declared so" for theorem in theorems if f"\npub {theorem}\n" not in proofs]
 if len(theorems) < 6:
     wrong.append("the theorems are no longer found")

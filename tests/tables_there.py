@@ -3,11 +3,10 @@
 
 The sources have no table. The compiler makes one of each loop of eight shifts (crates/checksum/src/tables.rt and `byte_in`), or does not and
 leaves a loop that is right and many times slower, which no proof and no other test would see. The tables are worked out here from the
-polynomial and sought as they lie in memory, in the object for x86-64 and in that for this machine. Run it in any folder; an
+polynomial and sought as they lie in memory, in the object for x86-64 and in that for Arm. Run it in any folder; an
 archive that is named is looked at in place of those.
 """
 import os
-import platform
 import struct
 import subprocess
 import sys
@@ -72,9 +71,9 @@ def missing(path):
 
 
 def built():
-    for arch in sorted({"x86_64", platform.machine()}):
-        subprocess.run(["sh", "tools/staticlib.sh", "guide", arch], cwd=ROOT, check=True)
-        yield "target/lib/%s/libguide.a" % arch
+    for arch in ("x86_64", "aarch64"):
+        subprocess.run(["sh", "tools/staticlib.sh", "guide_c", arch], cwd=ROOT, check=True)
+        yield "target/lib/%s/libguide_c.a" % arch
 
 
 def main():

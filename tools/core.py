@@ -9,7 +9,7 @@ from pathlib import Path
 PAGE = Path("docs/RULES.md")
 SCOPE = Path("docs/SCOPE.md")
 # the words of formats are said by Language.antt, and the printed lists are data
-SAID_ELSEWHERE = {Path(f"crates/format/specs/{name}.antt") for name in ("Formats", "Named", "Heads", "Told", "Lawful")} | {
+SAID_ELSEWHERE = {Path(f"crates/format/specs/{name}.antt") for name in ("Formats", "Steps", "Named", "Heads", "Told", "Lawful")} | {
     Path(f"crates/annex_c/specs/Printed{n}.antt") for n in (1, 2)}
 
 
@@ -72,9 +72,10 @@ def declared(crate, name):
     """A struct or an enum of the code."""
     for file in sorted((Path("crates") / crate / "src").rglob("*.rt")):
         text = file.read_text()
-        found = re.search(rf"^(?://[^\n]*\n)*pub (?:struct|enum) {name} \{{.*?^\}}", text, re.M | re.S)
+        found = re.search(rf"^(?://[^\n]*\n)*(?:#\[[^\n]*\n)*pub (?:struct|enum) {name} \{{.*?^\}}", text, re.M | re.S)
         if found:
-            return re.sub(r"^( *)pub (struct |enum )?", r"\1\2", found.group(0), flags=re.M)
+            text = re.sub(r"^ *#\[[^\n]*\n", "", found.group(0), flags=re.M)
+            return re.sub(r"^( *)pub (struct |enum )?", r"\1\2", text, flags=re.M)
     return None
 
 
@@ -98,9 +99,9 @@ def taken(file, starred):
     """What a file takes from outside the core: (where it stands, name, text)."""
     text = file.read_text()
     body = re.sub(r"^use .*\n", "", text, flags=re.M)
-    for crate, path, names, alias in re.findall(r"^use Rattle·(\w+?)(?:·specs)?\.specs\.(?:specs\.)?([\w.]+?)(?:\.\{([^}]*)\}| as (\w+))$", text, re.M):
+    for crate, path, names, alias in re.findall(r"^use Rattle\.(?!std\.)(\w+)\.specs\.([\w.]+?)(?:\.\{([^}]*)\}| as (\w+))$", text, re.M):
         if path.startswith("declared."):
-            name = path.replace(".the-variants", "").split(".")[-1]
+            name = path.replace(".TheVariants", "").split(".")[-1]
             if name != "Refusal":  # its names stand in Numbers.antt, one by one
                 yield f"the code of {crate}", name, declared(crate, name)
             continue
@@ -132,7 +133,7 @@ def argument(text, at):
 def without_back(text):
     """`under f {Y = R} to ..`: what follows `to` leads back from bytes to the record, or is a proof."""
     out, at = "", 0
-    for found in re.finditer(r"\b(?:under|underAll) (?=\()", text):
+    for found in re.finditer(r"\b(?:under|under_all) (?=\()", text):
         if found.start() < at or re.search(r"--[^\n]*$", text[:found.start()]):
             continue
         end = found.end()

@@ -7,5 +7,5 @@ export CARGO_TARGET_DIR=target/cargo
 cargo test --offline --quiet --release --manifest-path tests/reference/Cargo.toml
 cargo build --offline --quiet --release --manifest-path tests/compare/Cargo.toml
 set -- --seconds "${1:-40}" --seed "${2:-$(date +%Y%m%d)}"
-[ ! -e target/bin/lister ] || set -- "$@" --lister "$(sh tools/run.sh) target/bin/lister"
+[ ! -e crates/lister/out/lister ] || set -- "$@" --lister crates/lister/out/lister
 target/cargo/release/compare "$@"

@@ -1,9 +1,10 @@
 #!/bin/sh
 # A coverage-guided run of the C face: tests/fuzz/run.sh [SECONDS], 300 where none are named. It needs clang with libFuzzer (Debian: clang,
-# libclang-rt-14-dev) and an Arm machine, and is no part of the gate. The corpus stays in target/fuzz/corpus. Run it from the repository's root.
+# libclang-rt-14-dev) and an Arm machine, to which target/guide/aarch64/libguide.a is brought from where the kit runs (tools/lib.sh aarch64), and is no part of
+# the gate. The corpus stays in target/fuzz/corpus. Run it from the repository's root.
 set -e
 [ "$(uname -m)" = aarch64 ] || { echo "tests/fuzz finds the blocks of Arm code alone"; exit 1; }
-sh tools/lib.sh
+[ -e target/guide/aarch64/libguide.a ] || sh tools/lib.sh
 made=target/fuzz
 mkdir -p $made/corpus
 echo 'SECTIONS { guide_text : { *(.text .text.*) } }' >$made/one_section.ld
