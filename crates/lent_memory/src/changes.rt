@@ -60,9 +60,9 @@ fn equal_place(a: Place, b: Place) -> bool
 }
 
 // The first record below n that is another after the call, or n.
-fn changed_at(s: Shelf, t: Shelf, n: usize) -> usize
+fn changed_at(s: &Shelf, t: &Shelf, n: usize) -> usize
     requires { n ≤ 16 }
-    ensures { result ≡ changed_at s t n }
+    ensures { result ≡ changed_at s.now t.now n }
 {
     let mut i = 0;
     while i < n {
@@ -77,8 +77,8 @@ fn changed_at(s: Shelf, t: Shelf, n: usize) -> usize
     n
 }
 
-fn ending_of(s: Shelf, t: Shelf, number: u32) -> Ending
-    ensures { result ≡ ending_of s t number }
+fn ending_of(s: &Shelf, t: &Shelf, number: u32) -> Ending
+    ensures { result ≡ ending_of s.now t.now number }
 {
     let n = at_most(16, s.records);
     let at = changed_at(s, t, n);
@@ -105,9 +105,9 @@ fn write_at(l: &mut [u32], i: usize, a: Place, b: Place)
     write_row(l, i, b);
 }
 
-fn write_rows(l: &mut [u32], s: Shelf, t: Shelf)
-    requires { RowsFit s.count (length l.old) }
-    ensures { l.new ≡ rows_after s t l.old }
+fn write_rows(l: &mut [u32], s: &Shelf, t: &Shelf)
+    requires { RowsFit s.now.count (length l.old) }
+    ensures { l.new ≡ rows_after s.now t.now l.old }
 {
     let n = at_most(64, s.count);
     let mut i = 0;
@@ -119,11 +119,11 @@ fn write_rows(l: &mut [u32], s: Shelf, t: Shelf)
     }
 }
 
-// The rows are written, and the record is told.
+// The rows are written, and the record is told. The shelves are lent to what compares them, since copies of them cost stack.
 pub fn settle(l: &mut [u32], s: Shelf, t: Shelf, number: u32) -> Ending
     requires { RowsFit s.count (length l.old) }
     ensures { (result ≡ ending_of s t number) × (l.new ≡ rows_after s t l.old) }
 {
-    write_rows(l, s, t);
-    ending_of(s, t, number)
+    write_rows(l, &s, &t);
+    ending_of(&s, &t, number)
 }

@@ -55,15 +55,15 @@ fn watch_sound(w: Watch) -> bool
     true
 }
 
-// Whether no open watch below i has the key of the watch at i.
-fn key_is_new(ws: [Watch; 16], i: usize) -> bool
+// Whether no open watch below i has the key of the watch at i. The watches are lent, since a copy of them costs stack.
+fn key_is_new(ws: &[Watch; 16], i: usize) -> bool
     requires { i < 16 }
-    ensures { result ≡ key_is_new ws i }
+    ensures { result ≡ key_is_new ws.now i }
 {
     let w = ws[i];
     if w.live {
         let a = asked_of(w.key);
-        return find_watch(ws, i, a) == i;
+        return find_watch(*ws, i, a) == i;
     }
     true
 }
@@ -78,7 +78,7 @@ fn watches_ok(ws: [Watch; 16], n: usize) -> bool
         if !watch_sound(w) {
             return false;
         }
-        if !key_is_new(ws, i) {
+        if !key_is_new(&ws, i) {
             return false;
         }
         i += 1;
