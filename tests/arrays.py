@@ -2,7 +2,8 @@
 """Holds what the judge reaches to small arrays: no function and no type of `section`, nor of a crate that it is built on, names an array above 64
 bytes, and none of their constants is an array, since a constant that a function names is stored on its stack. The same of `reading`, `rows` and `writing`.
 Whole crates are looked at, so more than what is called. Where the words of an array do not tell its size it counts as too large, and a number without a
-type as eight bytes. Run it from the repository's root; it prints what breaks the rule and fails."""
+type as eight bytes; what `narrow` answers and what is given to `put_all` are numbers of 32 bits, and an array of as many things as a const parameter says
+has the size of what is given for it, where that is written. Run it from the repository's root; it prints what breaks the rule and fails."""
 import re
 import sys
 from pathlib import Path
@@ -22,13 +23,17 @@ BROKEN = (
     "let a = [1u32, 2, 3, 4, 5, 6, 7, 8, 9, 10];", "g(&[x, y])", "let a = [[0u8; 2]; 2];", "let a = [0u8; M];", "return [0u64; 9]", "let a = [0u8; 0x1f8];",
     "const T: [u8; 2] = [1, 2];", 'let t = b"ab";', 'let t = br"ab";', 'let t = br#"ab"#;', "f(&[LIMITS])", "/* ghost */ let a = [0u8; 65];",
     "ghost use a.{[]}; let a = [0u8; 65];", "ensures { [] } { [0u8; 65] }", "ensures b { [] } { [0u8; 65] }", "fn f() ghost { a } { [0u8; 65] }",
-    "struct S { ghost p { a }, t: [u8; 65] }", "ghost let a = 1; { [0u8; 65] }",
+    "struct S { ghost p { a }, t: [u8; 65] }", "ghost let a = 1; { [0u8; 65] }", "impl A { ghost g = { a }; t: [u8; 65] }",
+    "put_all(out, p, [a, a, a, a, a, a, a, a, a, a, a, a, a, a, a, a, a]);", "put(out, p, [n.n0, n.n1]);", "let a = [n.n0, n.n1]; put_all(out, p, b);", "let a = [narrow(x), y];",
+    "fn f<const N: usize>(a: [u32; M]) {}", "fn f<const N: usize>(a: [S; N]) {}",
 )  # fmt: skip
 SOUND = (
     "let a = [0u8; 64];", "let a = [0; 8];", "struct S { a: [u16; 32] }", "fn f<'a>(s: &'a [u8], t: &'a mut [LentWatch], u: &[kind::Limits]) {}", "s[65]",
     "f(s)[65]", "// [0u8; 65]", "ghost use a.{[]};", "ensures { [0u8; 65] } {}", "ensures b { [0u8; 65] } {}", "fn f() ghost { [0u8; 65] } {}",
     "#[unsafe(no_mangle)]", "#![tactic(auto)]",
-    "const N: usize = 65;", "let a = [1u8, 2, 3,];", "let a = [0u8; 0x40];",
+    "impl A { ghost g = { [] }; fn f() {} }", "put_all(out, p, [n.n0, f(n, 1),]);", "let a = [n.n0, n.n1]; put_all(out, p, a);", "let a = [narrow(x + 1), narrow(f(y, 2))];",
+    "fn f<const K: usize>(a: [u32; K]) {}",
+    "const N: usize = 65;", "fn f<const N: usize, const M: usize>(s: &[u8]) {}", "let a = [1u8, 2, 3,];", "let a = [0u8; 0x40];",
 )  # fmt: skip
 
 
@@ -51,6 +56,8 @@ def code(text):
             i = tokens.index(";", i)
         elif tokens[i] in ("ghost", "requires", "ensures") and "{" in tokens[i + 1 : i + 3]:
             i = end_of(tokens, tokens.index("{", i))
+        elif tokens[i] == "ghost" and tokens[i + 2 : i + 4] == ["=", "{"]:
+            i = end_of(tokens, i + 3)
         elif tokens[i] in ("ghost", "requires", "ensures", "/*"):
             return [tokens[i]]
         else:
@@ -74,8 +81,39 @@ def count_of(length, constants):
     return value_of(number) if number else constants.get(length)
 
 
-def array_size(inside, constants):
+def elements(inside):
+    """What stands between the commas of an array."""
+    depth, found = 0, [[]]
+    for token in inside:
+        depth += (token in "([{") - (token in ")]}")
+        if token == "," and not depth:
+            found.append([])
+        else:
+            found[-1].append(token)
+    return [element for element in found if element]
+
+
+def is_put(tokens, i):
+    """Whether the bracket at i is an argument of `put_all`, or the value of a local that is one in the next call."""
+    if tokens[i - 3 : i - 2] == ["let"] and tokens[i - 1] == "=":
+        after = end_of(tokens, i) + 2
+        return tokens[after : after + 2] == ["put_all", "("] and tokens[end_of(tokens, after + 1) - 1] == tokens[i - 2]
+    depth = 0
+    for k in range(i - 1, 0, -1):
+        depth += (tokens[k] in ")]}") - (tokens[k] in "([{")
+        if depth < 0:
+            return tokens[k] == "(" and tokens[k - 1] == "put_all"
+    return False
+
+
+def array_size(inside, constants, put, generic):
     """The bytes of the array with this between its brackets, or None where that is not told."""
+    if put:
+        return 4 * len(elements(inside))
+    if len(inside) == 3 and inside[1] == ";" and inside[0] in SIZES and inside[2] in generic:
+        return 0
+    if len(inside) > 1 and all(element[:2] == ["narrow", "("] for element in elements(inside)):
+        return 4 * len(elements(inside))
     if len(inside) == 3 and inside[1] == ";":
         each, count = size_of(inside[0]), count_of(inside[2], constants)
         return None if each is None or count is None else each * count
@@ -92,17 +130,18 @@ def is_slice(before, inside):
 
 def breaks(tokens, constants):
     """What these tokens name against the rule."""
+    generic = set(re.findall(r"[<,] const (\w+) : usize", " ".join(tokens)))
     for i, token in enumerate(tokens):
         before = ["-", "-", *tokens[max(i - 2, 0) : i]]
         if token in ("ghost", "requires", "ensures", "/*"):
             yield f"what follows `{token}` is not read here"
         elif re.match(r'br?#*"', token):
             yield f"constant bytes, {token[:20]}"
-        elif token == "const" and "[" in tokens[i : tokens.index(";", i)]:
+        elif token == "const" and before[-1] not in ("<", ",") and "[" in tokens[i : tokens.index(";", i)]:
             yield f"an array for a constant, {tokens[i + 1]}"
         elif token == "[" and before[-1] not in ("#", ")", "]") and before[-2:] != ["#", "!"] and (before[-1] in BEFORE_A_VALUE or not re.match(r"\w", before[-1])):
             inside = tokens[i + 1 : end_of(tokens, i)]
-            size = array_size(inside, constants)
+            size = array_size(inside, constants, is_put(tokens, i), generic)
             if not is_slice(before, inside) and (size is None or size > MOST):
                 yield f"an array of {size or 'who knows how many'} bytes, [{' '.join(inside)}]"
 

@@ -53,7 +53,6 @@ compare lister_half_heard listed_as examples/half_heard
 compare lister_vectors python3 tests/lister_vectors.py
 compare annex_c_data python3 tools/check_annex_c.py
 compare annex_c_crate python3 tools/annex_c.py --check
-compare checksum_crate python3 tools/checksum_tables.py --check
 compare header python3 tests/header.py
 compare day_sheet_from_c sh examples/c/run.sh
 compare calls_from_c sh tests/calls/run.sh

@@ -1,7 +1,7 @@
 #!/usr/bin/env python3
 """Looks in the built library for the tables of the checksum: fails where one is missing, or stands in memory that can be written.
 
-The sources have no table. The compiler makes one of each loop of eight shifts (crates/checksum/src/tables.rt and `byte_in`), or does not and
+The sources have no table. The compiler makes one of each loop of eight shifts (in crates/checksum `byte_in`, and `byte_ahead` for each number of bytes), or does not and
 leaves a loop that is right and many times slower, which no proof and no other test would see. The tables are worked out here from the
 polynomial and sought as they lie in memory, in the object for x86-64 and in that for Arm. Run it in any folder; an
 archive that is named is looked at in place of those.
@@ -39,7 +39,7 @@ def tables():
     made = {"byte_in": struct.pack("<256I", *(zeros(32, byte) for byte in range(256)))}
     for bits in BITS:
         constant = zeros(bits, 1)
-        made["tables::byte_%d" % bits] = struct.pack("<256Q", *(times(byte, constant) for byte in range(256)))
+        made["byte_ahead::<%d>" % (bits // 8)] = struct.pack("<256Q", *(times(byte, constant) for byte in range(256)))
     return made
 
 

@@ -8,14 +8,11 @@ mod writers;
 ghost use Rattle.std.specs.Prelude.{◌≡◌, ◌≤◌, length};
 ghost use Rattle.checksum.specs.Register.{register};
 ghost use Rattle.kind.specs.Kinds.{kind_of};
-ghost use Rattle.section.specs.Answers.{head_outcome};
 ghost use Rattle.section.specs.Sections.{section_by};
 ghost use Rattle.bench_calls.specs.Told.{told};
 
 use bytes_at::byte;
 use part::part_of;
-use section::Head;
-use segment::Judged;
 
 // The register after the bytes of `s`, from its start.
 #[unsafe(no_mangle)]
@@ -31,8 +28,8 @@ pub extern "C" fn bench_judge(s: &[u8]) -> u8
     ensures { result ≡ told (section_by kind_of s.now) }
 {
     match section::judge_any(s) {
-        Head::Refused(k) => k.number(),
-        Head::Passes(_h) => 0,
+        Err(k) => k.number(),
+        Ok(_) => 0,
     }
 }
 
@@ -41,10 +38,7 @@ fn title(s: &[u8], out: &mut [u16]) -> usize
     requires { length s.now ≤ 255 }
     ensures { result ≤ 1 }
 {
-    match segment::write(true, s, out, 0) {
-        Judged::Units(_k) => 1,
-        Judged::Refused(_k) => 0,
-    }
+    usize::from(segment::write(true, s, out, 0).is_ok())
 }
 
 // How many of the segments of type 1 in `s`, each with its length before it, are text. Each is written

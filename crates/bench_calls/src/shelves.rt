@@ -4,7 +4,7 @@ ghost use Rattle.std.specs.Prelude.{◌≡◌, ◌≤◌};
 
 use bytes_at::word;
 use part::part_of;
-use shelf::{Change, Progress};
+use shelf::Progress;
 use shelf_state::{Asked, Shelf};
 
 // A shelf, and how many of the calls that led to it answered as the measurement wants.
@@ -20,43 +20,30 @@ pub fn key(w: usize) -> Asked
     shelf_bytes::named(w, 0xCB, 7)
 }
 
-// One more, as far as there are numbers.
-fn one_more(n: u64) -> u64
-    ensures { n ≤ result }
-{
-    if n < u64::MAX { n + 1 } else { n }
-}
-
 // An empty shelf for the area, with its watches open.
 fn opened(area: &[u8], watches: usize, quota: usize) -> Shelf {
-    let first = shelf::empty(area.len() / 4096, watches);
-    let mut s = first.shelf;
-    let mut w = 0;
-    while w < watches {
-        let r = shelf::open(s, area, key(w), quota);
-        s = r.shelf;
-        w += 1;
+    let mut s = shelf::empty(area.len() / 4096, watches).shelf;
+    for w in 0..watches {
+        s = shelf::open(s, area, key(w), quota).shelf;
     }
     s
+}
+
+// One more, as far as there are numbers, where a call answered well.
+fn counted(good: u64, well: bool) -> u64
+    ensures { good ≤ result }
+{
+    good.saturating_add(u64::from(well))
 }
 
 // A delivery, counted where it is done.
 fn deliver_one(t: Tally, area: &mut [u8], w: usize, section: &[u8]) -> Tally
     ensures { t.good ≤ result.good }
 {
-    let s = t.shelf;
-    let r = shelf::deliver(s, area, w, section);
-    let next = r.shelf;
-    let answer = r.answer;
-    match answer {
-        Change::Done => Tally {
-            good: one_more(t.good),
-            shelf: next,
-        },
-        Change::Refused(_k) => Tally {
-            good: t.good,
-            shelf: next,
-        },
+    let r = shelf::deliver(t.shelf, area, w, section);
+    Tally {
+        good: counted(t.good, r.answer.is_ok()),
+        shelf: r.shelf,
     }
 }
 
@@ -79,10 +66,8 @@ fn deliver_all(t: Tally, area: &mut [u8], watches: usize, run: &[u8]) -> Tally
     ensures { t.good ≤ result.good }
 {
     let mut u = t;
-    let mut w = 0;
-    while w < watches {
+    for w in 0..watches {
         u = deliver_run(u, area, w, run);
-        w += 1;
     }
     u
 }
@@ -91,11 +76,14 @@ fn deliver_all(t: Tally, area: &mut [u8], watches: usize, run: &[u8]) -> Tally
 fn filled(area: &mut [u8], watches: usize, quota: usize, run: &[u8]) -> Tally
     ensures { result.good ≡ 0 }
 {
-    let s = opened(area, watches, quota);
-    let t = Tally { good: 0, shelf: s };
-    let u = deliver_all(t, area, watches, run);
-    let shelf = u.shelf;
-    Tally { good: 0, shelf }
+    let t = Tally {
+        good: 0,
+        shelf: opened(area, watches, quota),
+    };
+    Tally {
+        good: 0,
+        shelf: deliver_all(t, area, watches, run).shelf,
+    }
 }
 
 // How many deliveries are done when, on a shelf filled with `first`, every watch is delivered the sections
@@ -112,10 +100,8 @@ pub extern "C" fn bench_deliveries(
     ensures { rounds ≡ 0 → result ≡ 0 }
 {
     let mut t = filled(area, watches, quota, first);
-    let mut k = 0;
-    while k < rounds {
+    for _ in 0..rounds {
         t = deliver_all(t, area, watches, then);
-        k += 1;
     }
     t.good
 }
@@ -124,19 +110,10 @@ pub extern "C" fn bench_deliveries(
 fn ask_one(t: Tally, area: &[u8], w: usize) -> Tally
     ensures { t.good ≤ result.good }
 {
-    let s = t.shelf;
-    let r = shelf::status(s, area, key(w));
-    let next = r.shelf;
-    let answer = r.answer;
-    match answer {
-        Progress::Complete { of: _n } => Tally {
-            good: one_more(t.good),
-            shelf: next,
-        },
-        _ => Tally {
-            good: t.good,
-            shelf: next,
-        },
+    let r = shelf::status(t.shelf, area, key(w));
+    Tally {
+        good: counted(t.good, matches!(r.answer, Ok(Progress::Complete { .. }))),
+        shelf: r.shelf,
     }
 }
 
@@ -144,10 +121,8 @@ fn ask_all(t: Tally, area: &[u8], watches: usize) -> Tally
     ensures { t.good ≤ result.good }
 {
     let mut u = t;
-    let mut w = 0;
-    while w < watches {
+    for w in 0..watches {
         u = ask_one(u, area, w);
-        w += 1;
     }
     u
 }
@@ -165,10 +140,8 @@ pub extern "C" fn bench_statuses(
     ensures { rounds ≡ 0 → result ≡ 0 }
 {
     let mut t = filled(area, watches, quota, first);
-    let mut k = 0;
-    while k < rounds {
+    for _ in 0..rounds {
         t = ask_all(t, area, watches);
-        k += 1;
     }
     t.good
 }

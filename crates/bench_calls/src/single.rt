@@ -1,7 +1,9 @@
 // One call each, on a shelf that is lent as bytes: what the programs in bench/stack/ paint. Beside the call's own stack an entry has the
 // shelf that the call takes and the one that it gives.
 use crate::shelves::key;
-use shelf::{Change, Fetched, Progress};
+use part::Part;
+use refusal::Refusal;
+use shelf::Progress;
 
 // Where a kept section stands in the area.
 #[repr(C)]
@@ -12,10 +14,10 @@ pub struct Span {
 }
 
 // The refusal's number, or 0.
-fn number_of(answer: Change) -> u8 {
+fn number_of(answer: Result<(), Refusal>) -> u8 {
     match answer {
-        Change::Refused(k) => k.number(),
-        Change::Done => 0,
+        Err(k) => k.number(),
+        Ok(()) => 0,
     }
 }
 
@@ -23,16 +25,14 @@ fn number_of(answer: Change) -> u8 {
 pub extern "C" fn stack_open(held: &mut [u8], area: &[u8], pid: usize, quota: usize) -> u8 {
     let r = shelf::open(shelf_bytes::read(held), area, key(pid), quota);
     shelf_bytes::write(held, r.shelf);
-    let answer = r.answer;
-    number_of(answer)
+    number_of(r.answer)
 }
 
 #[unsafe(no_mangle)]
 pub extern "C" fn stack_close(held: &mut [u8], area: &[u8], pid: usize) -> u8 {
     let r = shelf::close(shelf_bytes::read(held), area, key(pid));
     shelf_bytes::write(held, r.shelf);
-    let answer = r.answer;
-    number_of(answer)
+    number_of(r.answer)
 }
 
 // How many sections a complete watch has, or 0.
@@ -40,9 +40,8 @@ pub extern "C" fn stack_close(held: &mut [u8], area: &[u8], pid: usize) -> u8 {
 pub extern "C" fn stack_status(held: &mut [u8], area: &[u8], pid: usize) -> usize {
     let r = shelf::status(shelf_bytes::read(held), area, key(pid));
     shelf_bytes::write(held, r.shelf);
-    let answer = r.answer;
-    match answer {
-        Progress::Complete { of } => of,
+    match r.answer {
+        Ok(Progress::Complete { of }) => of,
         _ => 0,
     }
 }
@@ -52,16 +51,13 @@ pub extern "C" fn stack_status(held: &mut [u8], area: &[u8], pid: usize) -> usiz
 pub extern "C" fn stack_fetch(held: &mut [u8], area: &[u8], pid: usize, number: usize) -> Span {
     let r = shelf::fetch(shelf_bytes::read(held), area, key(pid), number);
     shelf_bytes::write(held, r.shelf);
-    let answer = r.answer;
-    match answer {
-        Fetched::At(p) => Span {
-            start: p.start,
-            length: p.length,
-        },
-        Fetched::Refused(_k) => Span {
-            start: 0,
-            length: 0,
-        },
+    let p = r.answer.unwrap_or(Part {
+        start: 0,
+        length: 0,
+    });
+    Span {
+        start: p.start,
+        length: p.length,
     }
 }
 
@@ -74,6 +70,5 @@ pub extern "C" fn stack_deliver(
 ) -> u8 {
     let r = shelf::deliver(shelf_bytes::read(held), area, pid, section);
     shelf_bytes::write(held, r.shelf);
-    let answer = r.answer;
-    number_of(answer)
+    number_of(r.answer)
 }

@@ -3,7 +3,7 @@ use Prim.Native.Nat.{ℕ, ◌+◌, ◌≤◌, ◌<◌}
 use mathlib.Core.Path.{◌≡◌, refl, ap, ◌∙◌}
 use mathlib.Core.List.{List, [], ◌∷◌}
 use native.Mathlib.Omega.{arith}
-use Rattle.bytes_at.specs.declared.Walk.TheVariants.{To}
+use Rattle.std.specs.Prelude.{Ok}
 use Rattle.bytes_at.proofs.WalkLaws.{then_inv}
 use Rattle.format.specs.Formats.{walks}
 use Rattle.format.proofs.FieldLaws.{fields_end}
@@ -13,7 +13,7 @@ use Rattle.descriptor.proofs.ListLaws.{ListPassed, list10_passed}
 use Rattle.channel.specs.Walked.{channel}
 use Rattle.channel.specs.Fields.{channel_end}
 
-module _ (s : List ℕ) (end a b : ℕ) (w : walks channel s end a ≡ To b) where
+module _ (s : List ℕ) (end a b : ℕ) (w : walks channel s end a ≡ Ok b) where
   -- its head is passed, and then its descriptors
   passed : (d : ℕ) × ((d ≡ a + 30) × ListPassed no_tag 1024 s end d b)
   unfolding channel list10

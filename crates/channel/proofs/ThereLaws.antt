@@ -29,7 +29,7 @@ pub same_channel : (s : List ℕ) (end at : ℕ) → walks channel s end at ≡ 
 unfolding channel
 same_channel s end at = refl
 
-module _ (s : List ℕ) (z : Bytes s) (a : ℕ) (x : ChannelFields) (o : channel_format.Ok (record {}) x) (l : Lies (channel_format.enc x) s a) where
+module _ (s : List ℕ) (z : Bytes s) (a : ℕ) (x : ChannelFields) (o : channel_format.Formed (record {}) x) (l : Lies (channel_format.enc x) s a) where
   -- its head, and what stands behind it
   head_and_rest : Lies (bytes_of 30 (number channel_head (head_of x))) s a
       × Lies ((sized10 (descriptors no_tag)).enc ((x.r2, record {}), x.descs)) s (behind channel_head a)

@@ -5,30 +5,43 @@ ghost use Rattle.channel.specs.Fields.{name_row, tuning_row, service_row, number
 
 use crate::channel::{Channel, Name, Service, Tuning, channel_at, descriptors_at};
 use descriptor::list_end;
-use row::{put_part, put3, put4};
+use row::{put_all, put_part};
 
 fn put_name(n: Name, p: usize, out: &mut [u32])
     requires { p + 7 ≤ length out.old }
     ensures { out.new ≡ sets out.old p (name_row n) }
 {
-    put4(out, p, n.n0, n.n1, n.n2, n.n3);
-    put3(out, p + 4, n.n4, n.n5, n.n6);
+    put_all(out, p, [n.n0, n.n1, n.n2, n.n3, n.n4, n.n5, n.n6]);
 }
 
 fn put_tuning(t: Tuning, p: usize, out: &mut [u32])
     requires { p + 6 ≤ length out.old }
     ensures { out.new ≡ sets out.old p (tuning_row t) }
 {
-    put3(out, p, t.major, t.minor, t.modulation);
-    put3(out, p + 3, t.carrier, t.channel_tsid, t.program_number);
+    let numbers = [
+        t.major,
+        t.minor,
+        t.modulation,
+        t.carrier,
+        t.channel_tsid,
+        t.program_number,
+    ];
+    put_all(out, p, numbers);
 }
 
 fn put_service(v: Service, p: usize, out: &mut [u32])
     requires { p + 6 ≤ length out.old }
     ensures { out.new ≡ sets out.old p (service_row v) }
 {
-    put3(out, p, v.etm_location, v.access_controlled, v.hidden);
-    put3(out, p + 3, v.six_bits, v.service_type, v.source_id);
+    let numbers = [
+        v.etm_location,
+        v.access_controlled,
+        v.hidden,
+        v.six_bits,
+        v.service_type,
+        v.source_id,
+    ];
+    put_all(out, p, numbers);
 }
 
 // All but the descriptors.
@@ -36,12 +49,9 @@ fn put_numbers(c: Channel, p: usize, out: &mut [u32])
     requires { p + 19 ≤ length out.old }
     ensures { out.new ≡ sets out.old p (numbers_row c) }
 {
-    let name = c.name;
-    let tuning = c.tuning;
-    let service = c.service;
-    put_name(name, p, out);
-    put_tuning(tuning, p + 7, out);
-    put_service(service, p + 13, out);
+    put_name(c.name, p, out);
+    put_tuning(c.tuning, p + 7, out);
+    put_service(c.service, p + 13, out);
 }
 
 // The row of the channel that begins at a, from p on, and where the next one begins.

@@ -4,7 +4,7 @@ ghost use Rattle.bytes_at.specs.Walks.{many, fields_to};
 ghost use Rattle.format.specs.Formats.{walks};
 ghost use Rattle.channel.specs.Walked.{channel};
 
-use bytes_at::{Walk, skip_fields};
+use bytes_at::{Walk, repeated, skip_fields};
 use descriptor::{NO_TAG, whole_list10};
 
 // The fields of a channel before its descriptors. Those from ETM_location to the six bits begin in one
@@ -12,24 +12,15 @@ use descriptor::{NO_TAG, whole_list10};
 fn channel_fields(at: usize, end: usize) -> Walk
     ensures { result ≡ fields_to (112 ∷ 14 ∷ 10 ∷ 8 ∷ 32 ∷ 16 ∷ 16 ∷ 2 ∷ 1 ∷ 1 ∷ 6 ∷ 6 ∷ 16 ∷ []) at end }
 {
-    let w = skip_fields(at, 112, 14, 10, 8, end);
-    let Walk::To(b) = w else {
-        return w;
-    };
-    let v = skip_fields(b, 32, 16, 16, 0, end);
-    let Walk::To(d) = v else {
-        return v;
-    };
+    let b = skip_fields(at, 112, 14, 10, 8, end)?;
+    let d = skip_fields(b, 32, 16, 16, 0, end)?;
     skip_fields(d, 10, 6, 16, 0, end)
 }
 
 fn one_channel(s: &[u8], end: usize, at: usize) -> Walk
     ensures { result ≡ walks channel s.now end at }
 {
-    let w = channel_fields(at, end);
-    let Walk::To(b) = w else {
-        return w;
-    };
+    let b = channel_fields(at, end)?;
     whole_list10(s, NO_TAG, end, b)
 }
 
@@ -37,15 +28,5 @@ fn one_channel(s: &[u8], end: usize, at: usize) -> Walk
 pub fn past(s: &[u8], end: usize, n: usize, from: usize) -> Walk
     ensures { result ≡ many (walks channel s.now end) n from }
 {
-    let mut at = from;
-    let mut left = n;
-    while 0 < left {
-        let w = one_channel(s, end, at);
-        let Walk::To(b) = w else {
-            return w;
-        };
-        at = b;
-        left -= 1;
-    }
-    Walk::To(at)
+    repeated(n, from, |at| one_channel(s, end, at))
 }

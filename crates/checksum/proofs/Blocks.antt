@@ -131,11 +131,6 @@ block_one s at h = first_byte 0 s at h
 pub block_two : (s : List ℕ) (at : ℕ) → at + 2 ≤ length s → take 2 (drop at s) ≡ get_or s at 0 ∷ get_or s (at + 1) 0 ∷ []
 block_two s at h = first_byte 1 s at (omega arith) ∙ then _ (next_byte 0 1 s at (omega arith))
 
-pub block_four : (s : List ℕ) (at : ℕ) → at + 4 ≤ length s
-    → take 4 (drop at s) ≡ get_or s at 0 ∷ get_or s (at + 1) 0 ∷ get_or s (at + 2) 0 ∷ get_or s (at + 3) 0 ∷ []
-block_four s at h =
-    first_byte 3 s at (omega arith) ∙ then _ (next_byte 2 1 s at (omega arith) ∙ then _ (next_byte 1 2 s at (omega arith) ∙ then _ (next_byte 0 3 s at (omega arith))))
-
 -- ---- to the end: a block where more bytes follow, and then those
 
 pub one_left : (at b r : ℕ) (s : List ℕ) → at < length s → length s ≤ at + 1 → End (get_or s at 0 ∷ []) b r → End (drop at s) b r

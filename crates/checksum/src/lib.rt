@@ -11,6 +11,8 @@ ghost use Rattle.checksum.specs.Ahead.{StandsAfter, End};
 
 mod tables;
 
+use tables::{byte_ahead, word_ahead};
+
 // The register after a bit 0.
 fn shift(r: u32) -> u32
     ensures { result ≡ bit_in r 0 }
@@ -27,10 +29,8 @@ fn byte_in(r: u32, x: u8) -> u32
     ensures { result ≡ bits_in 8 x r }
 {
     let mut q = r ^ ((x as u32) << 24);
-    let mut i = 0u32;
-    while i < 8 {
+    for _ in 0..8u32 {
         q = shift(q);
-        i += 1;
     }
     q
 }
@@ -53,15 +53,15 @@ fn four(s: &[u8], at: usize) -> u64
 fn one_more(a: u64, x: u8) -> u64
     ensures { StandsAfter (x ∷ []) a 8 result }
 {
-    tables::byte_40((a >> 32) ^ (x as u64)) ^ ((a % 0x1_0000_0000) << 8)
+    byte_ahead::<5>((a >> 32) ^ (x as u64)) ^ ((a % 0x1_0000_0000) << 8)
 }
 
 // The same after two bytes.
 fn two_more(a: u64, x: u8, y: u8) -> u64
     ensures { StandsAfter (x ∷ y ∷ []) a 8 result }
 {
-    tables::byte_48((a >> 32) ^ (x as u64))
-        ^ (tables::byte_40((a >> 24) ^ (y as u64)) ^ ((a % 0x100_0000) << 16))
+    byte_ahead::<6>((a >> 32) ^ (x as u64))
+        ^ (byte_ahead::<5>((a >> 24) ^ (y as u64)) ^ ((a % 0x100_0000) << 16))
 }
 
 // The same after four bytes of `s`.
@@ -69,7 +69,7 @@ fn four_more(a: u64, s: &[u8], at: usize) -> u64
     requires { at + 4 ≤ length s.now }
     ensures { StandsAfter (take 4 (drop at s.now)) a 8 result }
 {
-    tables::word_40((a >> 8) ^ four(s, at)) ^ ((a % 256) << 32)
+    word_ahead::<8, 7, 6, 5>((a >> 8) ^ four(s, at)) ^ ((a % 256) << 32)
 }
 
 // The same after eight.
@@ -77,7 +77,8 @@ fn eight_more(a: u64, s: &[u8], at: usize) -> u64
     requires { at + 8 ≤ length s.now }
     ensures { StandsAfter (take 8 (drop at s.now)) a 8 result }
 {
-    tables::word_72((a >> 8) ^ four(s, at)) ^ tables::word_40(((a % 256) << 24) ^ four(s, at + 4))
+    word_ahead::<12, 11, 10, 9>((a >> 8) ^ four(s, at))
+        ^ word_ahead::<8, 7, 6, 5>(((a % 256) << 24) ^ four(s, at + 4))
 }
 
 // The same after eight and 64 bits 0.
@@ -85,7 +86,8 @@ fn eight_far(a: u64, s: &[u8], at: usize) -> u64
     requires { at + 8 ≤ length s.now }
     ensures { StandsAfter (take 8 (drop at s.now)) a 72 result }
 {
-    tables::word_136((a >> 8) ^ four(s, at)) ^ tables::word_104(((a % 256) << 24) ^ four(s, at + 4))
+    word_ahead::<20, 19, 18, 17>((a >> 8) ^ four(s, at))
+        ^ word_ahead::<16, 15, 14, 13>(((a % 256) << 24) ^ four(s, at + 4))
 }
 
 // The same after sixteen: the second eight need not wait for the first.
@@ -105,77 +107,43 @@ fn last_byte(a: u64, x: u8) -> u32
     byte_in(top << 24, x) ^ low
 }
 
-// The register after the bytes of `s` from `at` on, of which there are one or two. (One call after the `if` and none in
-// its arms: what is called once is put into its caller, and no frame is made.)
-fn up_to_2(a: u64, s: &[u8], at: usize) -> u32
-    requires { (at < length s.now) × (length s.now ≤ at + 2) }
-    ensures { End (drop at s.now) a result }
-{
-    let mut b = a;
-    let mut i = at;
-    if s.len() - at > 1 {
-        b = one_more(a, s[at]);
-        i = at + 1;
-    }
-    last_byte(b, s[i])
-}
-
-// The same of one to four bytes.
-fn up_to_4(a: u64, s: &[u8], at: usize) -> u32
-    requires { (at < length s.now) × (length s.now ≤ at + 4) }
-    ensures { End (drop at s.now) a result }
-{
-    let mut b = a;
-    let mut i = at;
-    if s.len() - at > 2 {
-        b = two_more(a, s[at], s[at + 1]);
-        i = at + 2;
-    }
-    up_to_2(b, s, i)
-}
-
-// The same of one to eight bytes.
-fn up_to_8(a: u64, s: &[u8], at: usize) -> u32
-    requires { (at < length s.now) × (length s.now ≤ at + 8) }
-    ensures { End (drop at s.now) a result }
-{
-    let mut b = a;
-    let mut i = at;
-    if s.len() - at > 4 {
-        b = four_more(a, s, at);
-        i = at + 4;
-    }
-    up_to_4(b, s, i)
-}
-
-// The same of one to sixteen bytes.
-fn up_to_16(a: u64, s: &[u8], at: usize) -> u32
+// The register after the bytes of `s` from `at` on, of which there are one to sixteen.
+fn up_to_16(mut a: u64, s: &[u8], mut at: usize) -> u32
     requires { (at < length s.now) × (length s.now ≤ at + 16) }
     ensures { End (drop at s.now) a result }
 {
-    let mut b = a;
-    let mut i = at;
     if s.len() - at > 8 {
-        b = eight_more(a, s, at);
-        i = at + 8;
+        a = eight_more(a, s, at);
+        at += 8;
     }
-    up_to_8(b, s, i)
+    if s.len() - at > 4 {
+        a = four_more(a, s, at);
+        at += 4;
+    }
+    if s.len() - at > 2 {
+        a = two_more(a, s[at], s[at + 1]);
+        at += 2;
+    }
+    if s.len() - at > 1 {
+        a = one_more(a, s[at]);
+        at += 1;
+    }
+    last_byte(a, s[at])
 }
 
 // The register after the bytes of `s`, from `r` on.
 pub fn register_from(r: u32, s: &[u8]) -> u32
     ensures { result ≡ register_from r s.now }
 {
-    if s.len() == 0 {
+    if s.is_empty() {
         return r;
     }
+    let blocks = (s.len() - 1) / 16;
     let mut a = (r as u64) << 8;
-    let mut i = 0;
-    while s.len() - i > 16 {
-        a = sixteen_more(a, s, i);
-        i += 16;
+    for k in 0..blocks {
+        a = sixteen_more(a, s, 16 * k);
     }
-    up_to_16(a, s, i)
+    up_to_16(a, s, 16 * blocks)
 }
 
 // The register after the bytes of `s`, from its start.

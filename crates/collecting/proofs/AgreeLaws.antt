@@ -1,8 +1,8 @@
 -- A build that agrees with the calls by value collects as they do.
+use Rattle.std.specs.Prelude.{Option}
 use Prim.Native.Nat.{◌+◌}
 use mathlib.Core.Path.{◌∙◌, ◌≡◌, ap, ap₂, refl, subst, sym}
 use mathlib.Core.List.{List, [], ◌∷◌}
-use mathlib.Core.Option.{Option}
 use Rattle.shelf_state.specs.Rules.{promised}
 use Rattle.shelf_state.specs.declared.records.Asked.{Asked}
 use Rattle.shelf.specs.Steps.{Answer, State, Turn, accepted}

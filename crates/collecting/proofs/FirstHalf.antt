@@ -1,10 +1,10 @@
 -- The third demand, first half: a watch with room for a table ends complete, holding exactly its bytes.
+use Rattle.std.specs.Prelude.{Option, None, Some}
 use Prim.Native.Nat.{◌+◌, ◌<◌, ◌≤◌, ℕ}
 use mathlib.Core.Path.{◌∙◌, ◌≡◌, ap, refl, subst, sym}
 use mathlib.Core.Bool.{Bool, false, true}
 use mathlib.Core.List.{List, [], ◌∷◌}
 use mathlib.Core.Logic.{◌⊎◌, inl, inr, ⊎_elim}
-use mathlib.Core.Option.{Option, none, some}
 use native.Mathlib.Omega.{arith}
 use lib.Dec.{eqb}
 use lib.ListN.{length}
@@ -52,7 +52,7 @@ module _ (k : Asked) (table : WholeTable k) where
   -- section m is kept, in the table's edition
   record Got (m : ℕ) (v : View) : Type 0 where
     in_edition : v.edition ≡ edition
-    bytes_are : v.kept m ≡ some (record { bytes = table.bytes m })
+    bytes_are : v.kept m ≡ Some (record { bytes = table.bytes m })
 
   -- the table's section n is heard: n is got, and what was got stays so
   module _ (v : View) (n : ℕ) (l : n ≤ table.last) where
@@ -79,33 +79,33 @@ module _ (k : Asked) (table : WholeTable k) where
         (both (eqb m (head n l).number))
 
   -- ---- one turn
-  module _ (x : State) (v : View) (ok : Obeys x) (is : view_in x k ≡ some v) where
+  module _ (x : State) (v : View) (ok : Obeys x) (is : view_in x k ≡ Some v) where
     module _ (t : Turn) (lent : own_or14 (length x.area) t.lent ≡ true) where
       abbrev y : Bool
       y = accepted (step x t).answer
 
-      view_next : view_in (step x t).next k ≡ next_view k t.call y (some v)
+      view_next : view_in (step x t).next k ≡ next_view k t.call y (Some v)
       view_next = (step_law x t ok).views lent k ∙ ap (next_view k t.call y) is
 
       -- the watch is still open, with its quota, and what was got stays so
       pub record Stays : Type 0 where
         pub view : View
-        pub is_view : view_in (step x t).next k ≡ some view
+        pub is_view : view_in (step x t).next k ≡ Some view
         pub same_quota : view.quota ≡ v.quota
         still : (m : ℕ) → Got m v → Got m view
 
-      unmoved : view_in (step x t).next k ≡ some v → Stays
+      unmoved : view_in (step x t).next k ≡ Some v → Stays
       unmoved e = record { view = v; is_view = e; same_quota = refl; still = λ m g. g }
 
-      hears_one : (n : ℕ) (l : n ≤ table.last) → view_in (step x t).next k ≡ some (heard v n l) → Stays
+      hears_one : (n : ℕ) (l : n ≤ table.last) → view_in (step x t).next k ≡ Some (heard v n l) → Stays
       hears_one n l e = record { view = heard v n l; is_view = e; same_quota = same_room v n l; still = still_got v n l }
 
       -- a call about one key: another key's view stays
-      of_key : (a : Asked) (w : Option View) → view_in (step x t).next k ≡ pick (y & same_key k a) w (some v)
+      of_key : (a : Asked) (w : Option View) → view_in (step x t).next k ≡ pick (y & same_key k a) w (Some v)
           → (a ≡ k → y ≡ true → view_in (step x t).next k ≡ w → Stays) → Stays
       of_key a w e f = ⊎_elim
-          (λ b. f (sym (key_is k a (and_right y (same_key k a) b))) (and_left y (same_key k a) b) (e ∙ ap (λ (c : Bool). pick c w (some v)) b))
-          (λ b. unmoved (e ∙ ap (λ (c : Bool). pick c w (some v)) b))
+          (λ b. f (sym (key_is k a (and_right y (same_key k a) b))) (and_left y (same_key k a) b) (e ∙ ap (λ (c : Bool). pick c w (Some v)) b))
+          (λ b. unmoved (e ∙ ap (λ (c : Bool). pick c w (Some v)) b))
           (both (y & same_key k a))
 
       opens_no_more : (o : Opening) → t.call ≡ opens o → o.key ≡ k → y ≡ false
@@ -118,19 +118,19 @@ module _ (k : Asked) (table : WholeTable k) where
       unfolding next_view
       turned al = go t.call refl
         where
-          next_is : (c : Call) → t.call ≡ c → view_in (step x t).next k ≡ next_view k c y (some v)
-          next_is c e = view_next ∙ ap (λ (d : Call). next_view k d y (some v)) e
+          next_is : (c : Call) → t.call ≡ c → view_in (step x t).next k ≡ next_view k c y (Some v)
+          next_is c e = view_next ∙ ap (λ (d : Call). next_view k d y (Some v)) e
 
           go : (c : Call) → t.call ≡ c → Stays
-          go (opens o) e = of_key o.key (some (fresh_view o.quota)) (next_is (opens o) e) (λ q a _. true_false y a (opens_no_more o e q))
-          go (closes c) e = of_key c.key none (next_is (closes c) e) (λ q a _. true_false y a (al.stays_open c e q))
+          go (opens o) e = of_key o.key (Some (fresh_view o.quota)) (next_is (opens o) e) (λ q a _. true_false y a (opens_no_more o e q))
+          go (closes c) e = of_key c.key None (next_is (closes c) e) (λ q a _. true_false y a (al.stays_open c e q))
           go (asks q) e = unmoved (next_is (asks q) e)
           go (fetches f) e = unmoved (next_is (fetches f) e)
-          go (delivers d) e = of_key (key_in d.pid d.bytes) (hears_in (some v) d.bytes (judged d.bytes)) (next_is (delivers d) e) (λ q a w.
+          go (delivers d) e = of_key (key_in d.pid d.bytes) (hears_in (Some v) d.bytes (judged d.bytes)) (next_is (delivers d) e) (λ q a w.
               let o : OneOf table d.bytes = al.no_other d e q a in
               hears_one o.number o.upto
-              (w ∙ ap (λ (b : List ℕ). hears_in (some v) b (judged b)) o.bytes_are
-              ∙ ap (hears_in (some v) (table.bytes o.number)) (table.sections o.number o.upto).sound))
+              (w ∙ ap (λ (b : List ℕ). hears_in (Some v) b (judged b)) o.bytes_are
+              ∙ ap (hears_in (Some v) (table.bytes o.number)) (table.sections o.number o.upto).sound))
 
     -- ---- where the watch has room for the table, a delivery of section m is accepted and heard
     module _ (room : table.last + 1 ≤ v.quota) (m : ℕ) (l : m ≤ table.last) where
@@ -147,16 +147,16 @@ module _ (k : Asked) (table : WholeTable k) where
           says_delivered x k.pid (table.bytes m) ok
           ∙ rw ((table.sections m l).key, current, is, le-leb ((head m l).last + 1) v.quota (omega (arith, room, (table.sections m l).last_is)))
 
-      is_heard : view_in (step x turn).next k ≡ some (heard v m l)
+      is_heard : view_in (step x turn).next k ≡ Some (heard v m l)
       unfolding next_view
       is_heard =
-          let w : Option View = hears_in (some v) (table.bytes m) (judged (table.bytes m)) in
+          let w : Option View = hears_in (Some v) (table.bytes m) (judged (table.bytes m)) in
           view_next turn refl
-          ∙ ap (λ (b : Bool). pick b w (some v)) (and_i _ _ (ap accepted accepts) (ap (same_key k) (table.sections m l).key ∙ key_self k))
-          ∙ ap (hears_in (some v) (table.bytes m)) (table.sections m l).sound
+          ∙ ap (λ (b : Bool). pick b w (Some v)) (and_i _ _ (ap accepted accepts) (ap (same_key k) (table.sections m l).key ∙ key_self k))
+          ∙ ap (hears_in (Some v) (table.bytes m)) (table.sections m l).sound
 
       -- so number m is got in the view after it
-      gets_it : (t : Turn) (w : View) → view_in (step x t).next k ≡ some w → t ≡ turn → Got m w
+      gets_it : (t : Turn) (w : View) → view_in (step x t).next k ≡ Some w → t ≡ turn → Got m w
       gets_it t w f e = subst (Got m) (same_some (heard v m l) w (sym is_heard ∙ ap (λ (u : Turn). view_in (step x u).next k) (sym e) ∙ f)) (now_got v m l)
 
   -- ---- a stretch
@@ -172,11 +172,11 @@ module _ (k : Asked) (table : WholeTable k) where
   record Ends (v : View) (x : State) (ts : List Turn) : Type 0 where
     finally : View
     keeps : Obeys (state_after ours x ts)
-    view_is : view_in (state_after ours x ts) k ≡ some finally
+    view_is : view_in (state_after ours x ts) k ≡ Some finally
     gets : (m : ℕ) → m ≤ table.last → Made (deliver k.pid (table.bytes m)) ts ⊎ Got m v → Got m finally
     none_refused : NoneRefused ours table x ts
 
-  ends : (x : State) (v : View) (ts : List Turn) → Obeys x → view_in x k ≡ some v → table.last + 1 ≤ v.quota → Own (length x.area) ts → Stretch ours table x ts → Ends v x ts
+  ends : (x : State) (v : View) (ts : List Turn) → Obeys x → view_in x k ≡ Some v → table.last + 1 ≤ v.quota → Own (length x.area) ts → Stretch ours table x ts → Ends v x ts
   unfolding state_after
   ends x v [] ok is room own end = record {
     finally = v;
@@ -200,11 +200,11 @@ module _ (k : Asked) (table : WholeTable k) where
       }
 
   -- ---- all numbers got: complete, and the bytes are the table's
-  module _ (x : State) (v : View) (ok : Obeys x) (is : view_in x k ≡ some v) (got : (m : ℕ) → m ≤ table.last → Got m v) where
+  module _ (x : State) (v : View) (ok : Obeys x) (is : view_in x k ≡ Some v) (got : (m : ℕ) → m ≤ table.last → Got m v) where
     in_edition : v.edition ≡ edition
     in_edition = (got 0 (omega arith)).in_edition
 
-    status_is : status_says (some v) ≡ resulted (complete (table.last + 1))
+    status_is : status_says (Some v) ≡ resulted (complete (table.last + 1))
     unfolding status_of
     status_is =
         let n : ℕ = table.last + 1 in
@@ -219,8 +219,8 @@ module _ (k : Asked) (table : WholeTable k) where
     completes : Complete ours table x
     completes = record {
       says = says_status x k ok ∙ ap (λ (w : Option View). reported (status_says w)) is ∙ ap reported status_is;
-      holds = λ m l. gives m (some (record { bytes = table.bytes m })) (got m l).bytes_are;
-      no_other = λ m l. gives m none (none_above x k v ok is m (subst (λ (e : Edition). e.last < m) (sym in_edition) l));
+      holds = λ m l. gives m (Some (record { bytes = table.bytes m })) (got m l).bytes_are;
+      no_other = λ m l. gives m None (none_above x k v ok is m (subst (λ (e : Edition). e.last < m) (sym in_edition) l));
     }
 
 pub first_half : FirstHalf ours

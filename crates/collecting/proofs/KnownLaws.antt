@@ -1,9 +1,9 @@
 -- Where the views of all keys are known, so are the answers of the calls of a stretch and the views after them.
+use Rattle.std.specs.Prelude.{Option, Some}
 use Prim.Native.Nat.{◌≤◌, ℕ}
 use mathlib.Core.Path.{◌∙◌, ◌≡◌, ap, refl, subst, sym}
 use mathlib.Core.Bool.{Bool, false, true}
 use mathlib.Core.List.{List, [], ◌∷◌}
-use mathlib.Core.Option.{Option, some}
 use lib.ListN.{length}
 use borrow.Author.Tests.{le-leb, ne_eqb}
 use Rattle.logic.specs.Choices.{pick}
@@ -82,7 +82,7 @@ module _ {n : ℕ} {f : Asked → Option View} where
         (lent_other x l i.ok (subst (λ (m : ℕ). own_or14 m (other l) ≡ true) (sym i.size) lent) c) q
 
     -- an open watch's key
-    pub refuses_19 : (k : Asked) (q : ℕ) (v : View) → in_range k q ≡ true → f k ≡ some v → Goes n f (opening k q) (did (refused 19)) f x
+    pub refuses_19 : (k : Asked) (q : ℕ) (v : View) → in_range k q ≡ true → f k ≡ Some v → Goes n f (opening k q) (did (refused 19)) f x
     unfolding step step_on opened opened_in_range or_refuse_with
     refuses_19 k q v e w = refuses (opening k q) (did (refused 19)) refl (rw (i.ok, e, viewed x.shelf x.area k v (i.views k ∙ w))) refl
 

@@ -1,9 +1,9 @@
 -- The sample stretch, on any area: what each of its calls answers, and that it meets all that the first half of the third demand asks,
 -- so that its table is collected.
+use Rattle.std.specs.Prelude.{Option, None, Some}
 use Prim.Native.Nat.{◌%◌, ◌*◌, ◌+◌, ◌/◌, ◌<◌, ◌≤◌, suc, zero, ℕ}
 use mathlib.Core.Path.{◌∙◌, ◌≡◌, ap, refl, subst, sym}
 use mathlib.Core.List.{List, [], ◌∷◌}
-use mathlib.Core.Option.{Option, none, some}
 use native.Mathlib.Omega.{arith}
 use lib.ListN.{length}
 use borrow.Author.Tests.{le-leb}
@@ -89,13 +89,13 @@ abbrev pub room : ℕ
 room = 5 * 4096
 
 abbrev pub no_views : Asked → Option View
-no_views k = none
+no_views k = None
 
 abbrev pub mine_views : Asked → Option View
-mine_views k = pick (same_key k mine) (some (fresh_view 3)) none
+mine_views k = pick (same_key k mine) (Some (fresh_view 3)) None
 
 abbrev pub fresh_views : Asked → Option View
-fresh_views k = pick (same_key k theirs) (some (fresh_view 2)) (mine_views k)
+fresh_views k = pick (same_key k theirs) (Some (fresh_view 2)) (mine_views k)
 
 abbrev start_views : Asked → Option View
 start_views = hearing mine (eit 7 3 1 2) (eit_header 7 3 1 2) fresh_views
@@ -182,7 +182,7 @@ stretch_made (suc (suc zero)) l = here
 stretch_made (suc (suc (suc m))) l = absurd (omega (arith, l))
 
 module _ (area : List ℕ) (size : length area ≡ room) where
-  start_view : view_in (start area) mine ≡ some old_view
+  start_view : view_in (start area) mine ≡ Some old_view
   unfolding same_key ◌&◌
   start_view = (start_known area size).views mine
 

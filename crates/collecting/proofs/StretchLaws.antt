@@ -1,9 +1,9 @@
 -- When turns are a stretch for a table, told by their sections alone; and that a memory of another length is refused by 14.
+use Rattle.std.specs.Prelude.{Option, Some}
 use Prim.Native.Nat.{◌+◌, ◌<◌, ℕ}
 use mathlib.Core.Path.{◌∙◌, ◌≡◌, ap, subst, sym}
 use mathlib.Core.Bool.{false, true}
 use mathlib.Core.List.{List, [], ◌∷◌}
-use mathlib.Core.Option.{Option, some}
 use lib.ListN.{length}
 use borrow.Author.Tests.{lt-leb}
 use Rattle.logic.proofs.LoopLaws.{true_false}
@@ -44,10 +44,10 @@ pub data AllPlain {k : Asked} (table : WholeTable k) (quota : ℕ) : List Turn �
   plain : {t : Turn} {ts : List Turn} → Plain table quota t.call → AllPlain table quota ts → AllPlain table quota (t ∷ ts)
 
 -- ---- such calls are allowed
-module _ (k : Asked) (table : WholeTable k) (x : State) (v : View) (ok : Obeys x) (is : view_in x k ≡ some v) where
+module _ (k : Asked) (table : WholeTable k) (x : State) (v : View) (ok : Obeys x) (is : view_in x k ≡ Some v) where
   -- a delivery that its own area would not make accepted
   refuses : (d : Delivery) (u : Lent) (n : ℕ) → own_or14 (length x.area) u ≡ true → key_in d.pid d.bytes ≡ k
-      → delivery_says (some v) (current_on d.pid d.bytes) ≡ refused n → accepted (step x (record { call = delivers d; lent = u })).answer ≡ false
+      → delivery_says (Some v) (current_on d.pid d.bytes) ≡ refused n → accepted (step x (record { call = delivers d; lent = u })).answer ≡ false
   refuses d (other l) n lent e r = ap accepted (lent_other x l ok lent (delivers d))
   refuses d own n lent e r =
       ap accepted (says_delivered x d.pid d.bytes ok ∙ ap did (ap (λ (w : Option View). delivery_says w (current_on d.pid d.bytes)) (ap (view_in x) e ∙ is) ∙ r))
@@ -61,14 +61,14 @@ module _ (k : Asked) (table : WholeTable k) (x : State) (v : View) (ok : Obeys x
   }
     where
       one : (d : Delivery) → key_in d.pid d.bytes ≡ k → Harmless table v.quota d
-          → ((n : ℕ) → delivery_says (some v) (current_on d.pid d.bytes) ≡ refused n → OneOf table d.bytes) → OneOf table d.bytes
+          → ((n : ℕ) → delivery_says (Some v) (current_on d.pid d.bytes) ≡ refused n → OneOf table d.bytes) → OneOf table d.bytes
       one d q (other_key f) r = absurd (f q)
       one d q (of_table o) r = o
       one d q (unsound n e) r = r n (rw e)
       one d q (too_many h e l) r = r 18 (rw (e, lt-leb (h.last + 1) v.quota l))
 
 -- ---- so a stretch of them is a stretch
-pub stretch_of : (k : Asked) (table : WholeTable k) (x : State) (v : View) (ts : List Turn) → Obeys x → view_in x k ≡ some v → Own (length x.area) ts
+pub stretch_of : (k : Asked) (table : WholeTable k) (x : State) (v : View) (ts : List Turn) → Obeys x → view_in x k ≡ Some v → Own (length x.area) ts
     → AllPlain table v.quota ts → Stretch ours table x ts
 stretch_of k table x v [] ok is o ps = end
 stretch_of k table x v (t ∷ ts) ok is (one_more lent later) (plain p ps) =

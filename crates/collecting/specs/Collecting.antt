@@ -2,8 +2,7 @@
 -- call on that memory answers and leaves memory. A view is what a key's watch has collected (Views.antt of `shelf`). All stretches stand in
 -- the order in which their calls are made; what was heard of a key stands with the newest first. What follows from these statements, and
 -- what goes beyond them, is in More.antt.
-use Rattle.std.specs.Prelude.{ℕ, ◌+◌, ◌*◌, ◌≤◌, ◌<◌, ◌≡◌, Bool, true, false, List, [], ◌∷◌, eqb, length}
-use Rattle.std.proofs.Math.Option.{Option, some, none}
+use Rattle.std.specs.Prelude.{ℕ, ◌+◌, ◌*◌, ◌≤◌, ◌<◌, ◌≡◌, Bool, true, false, List, [], ◌∷◌, eqb, length, Option, Some, None}
 use Rattle.logic.specs.Choices.{pick}
 use Rattle.logic.specs.Loops.{◌&◌, all, count}
 use Rattle.refusal.specs.Outcomes.{Outcome, refused, resulted}
@@ -109,7 +108,7 @@ FirstHalf B =
     -- "a shelf that obeys its rules"
     → Obeys (B.means x)
     -- "an open watch on it"
-    → view_in (B.means x) k ≡ some v
+    → view_in (B.means x) k ≡ Some v
     -- "no more of them than the watch's quota"
     → table.last + 1 ≤ v.quota
     -- "that nothing else writes"
@@ -137,13 +136,13 @@ pub record Heard : Type 0 where
   pub bytes : List ℕ
 
 abbrev pub heard_with : Option (List Heard) → List ℕ → Outcome Header → Option (List Heard)
-heard_with none b o = none
-heard_with (some hs) b (refused n) = some hs
-heard_with (some hs) b (resulted h) = some (record { head = h; bytes = b } ∷ hs)
+heard_with None b o = None
+heard_with (Some hs) b (refused n) = Some hs
+heard_with (Some hs) b (resulted h) = Some (record { head = h; bytes = b } ∷ hs)
 
 unfoldable pub history_next : Asked → Call → Bool → Option (List Heard) → Option (List Heard)
-history_next k (opens o) y hs = pick (y & same_key k o.key) (some []) hs
-history_next k (closes c) y hs = pick (y & same_key k c.key) none hs
+history_next k (opens o) y hs = pick (y & same_key k o.key) (Some []) hs
+history_next k (closes c) y hs = pick (y & same_key k c.key) None hs
 history_next k (asks q) y hs = hs
 history_next k (fetches f) y hs = hs
 history_next k (delivers d) y hs = pick (y & same_key k (key_in d.pid d.bytes)) (heard_with hs d.bytes (judged d.bytes)) hs
@@ -163,8 +162,8 @@ run (d ∷ ds) = d ∷ pick (continues d.head ds) (run ds) []
 
 -- the newest section of a number
 unfoldable pub newest : ℕ → List Heard → Option (List ℕ)
-newest m [] = none
-newest m (d ∷ ds) = pick (eqb m d.head.number) (some d.bytes) (newest m ds)
+newest m [] = None
+newest m (d ∷ ds) = pick (eqb m d.head.number) (Some d.bytes) (newest m ds)
 
 abbrev pub occurs : List Heard → ℕ → Bool
 occurs ds m = is_some (newest m ds)
@@ -174,17 +173,17 @@ abbrev pub status_of_run : ℕ → List Heard → Status
 status_of_run n ds = pick (all n (occurs ds)) (complete n) (held (count n (occurs ds)) n)
 
 abbrev pub status_told : Option (List Heard) → Outcome Status
-status_told none = refused 17
-status_told (some []) = resulted unheard
-status_told (some (d ∷ ds)) = resulted (status_of_run (d.head.last + 1) (run (d ∷ ds)))
+status_told None = refused 17
+status_told (Some []) = resulted unheard
+status_told (Some (d ∷ ds)) = resulted (status_of_run (d.head.last + 1) (run (d ∷ ds)))
 
 abbrev pub newest_or22 : Option (List ℕ) → Outcome (List ℕ)
-newest_or22 none = refused 22
-newest_or22 (some b) = resulted b
+newest_or22 None = refused 22
+newest_or22 (Some b) = resulted b
 
 abbrev pub bytes_told : Option (List Heard) → ℕ → Outcome (List ℕ)
-bytes_told none m = refused 17
-bytes_told (some hs) m = newest_or22 (newest m (run hs))
+bytes_told None m = refused 17
+bytes_told (Some hs) m = newest_or22 (newest m (run hs))
 
 pub record ToldBy (B : Build) (x : B.Memory) (k : Asked) (hs : Option (List Heard)) : Type 0 where
   pub says : (B.turn x (status k)).answer ≡ reported (status_told hs)
@@ -199,4 +198,4 @@ pub record StartsEmpty (B : Build) (x : B.Memory) : Type 0 where
   pub area_is : length (B.means x).area ≡ places * 4096
 
 abbrev pub FromEmpty : Build → Type 0
-FromEmpty B = (x : B.Memory) (k : Asked) (ts : List Turn) → StartsEmpty B x → Own (length (B.means x).area) ts → ToldBy B (state_after B x ts) k (history k none (recorded B x ts))
+FromEmpty B = (x : B.Memory) (k : Asked) (ts : List Turn) → StartsEmpty B x → Own (length (B.means x).area) ts → ToldBy B (state_after B x ts) k (history k None (recorded B x ts))

@@ -1,7 +1,6 @@
 -- What follows from the third demand (Collecting.antt) or goes beyond it: the second half from any shelf on which no watch has an edition, when
 -- a watch is called complete, SCOPE 5.9 (the places promised), and which builds keep all of these, the calls on lent memory too.
-use Rattle.std.specs.Prelude.{ℕ, ◌+◌, ◌<◌, ◌≡◌, true, false, List, [], ◌∷◌, length}
-use Rattle.std.proofs.Math.Option.{Option, some, none}
+use Rattle.std.specs.Prelude.{ℕ, ◌+◌, ◌<◌, ◌≡◌, true, false, List, [], ◌∷◌, length, Option, Some, None}
 use Rattle.refusal.specs.Outcomes.{resulted}
 use Rattle.shelf_state.specs.Rules.{promised}
 use Rattle.shelf_state.specs.declared.records.Asked.{Asked}
@@ -15,12 +14,12 @@ use Rattle.collecting.specs.Collecting.{Build, Exchange, FirstHalf, FromEmpty, H
 
 -- ---- the second half, from any shelf on which no open watch has an edition
 abbrev pub Silent : State → Type 0
-Silent x = (k : Asked) (v : View) → view_in x k ≡ some v → v.edition.heard ≡ false
+Silent x = (k : Asked) (v : View) → view_in x k ≡ Some v → v.edition.heard ≡ false
 
 -- before the first call: nothing
 abbrev pub nothing_yet : Option View → Option (List Heard)
-nothing_yet none = none
-nothing_yet (some v) = some []
+nothing_yet None = None
+nothing_yet (Some v) = Some []
 
 abbrev pub SecondHalf : Build → Type 0
 SecondHalf B =
@@ -29,9 +28,9 @@ SecondHalf B =
 
 -- so a watch is called complete only where every section of its edition was accepted since that edition began
 abbrev pub EachAccepted : ℕ → Option (List Heard) → Type 0
-EachAccepted n none = ⊥
-EachAccepted n (some []) = ⊥
-EachAccepted n (some (d ∷ ds)) = (n ≡ d.head.last + 1) × ((m : ℕ) → m < n → occurs (run (d ∷ ds)) m ≡ true)
+EachAccepted n None = ⊥
+EachAccepted n (Some []) = ⊥
+EachAccepted n (Some (d ∷ ds)) = (n ≡ d.head.last + 1) × ((m : ℕ) → m < n → occurs (run (d ∷ ds)) m ≡ true)
 
 abbrev pub CompleteOnlyThen : Type 1
 CompleteOnlyThen =

@@ -1,7 +1,6 @@
 -- SCOPE 12.6 and 12.7: calls by value that the third demand shuts out (proofs/). Each spoils the answers of the shelf's own calls, or
 -- what they keep.
-use Rattle.std.specs.Prelude.{ℕ, ◌+◌, Bool, true, false, not, eqb}
-use Rattle.std.proofs.Math.Option.{Option, some, none}
+use Rattle.std.specs.Prelude.{ℕ, ◌+◌, Bool, true, false, not, eqb, Option, Some, None}
 use Rattle.logic.specs.Choices.{pick}
 use Rattle.refusal.specs.Outcomes.{refused, resulted}
 use Rattle.shelf.specs.Views.{Status, complete, held, unheard, Call, Delivery, View, asks, closes, delivers, fetches, key_in, opens}
@@ -34,8 +33,8 @@ stores_nothing = storing (λ x d. false)
 
 -- the first section of a watch alone
 abbrev pub has_heard : Option View → Bool
-has_heard none = false
-has_heard (some v) = v.edition.heard
+has_heard None = false
+has_heard (Some v) = v.edition.heard
 
 abbrev pub unheard_before : State → Delivery → Bool
 unheard_before x d = not (has_heard (view_in x (key_in d.pid d.bytes)))

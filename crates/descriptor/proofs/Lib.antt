@@ -1,2 +1,1 @@
-pub mod StopLaws
 pub mod ListLaws

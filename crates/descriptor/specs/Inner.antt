@@ -1,9 +1,5 @@
 -- What the private functions answer.
 use Rattle.std.specs.Prelude.{ℕ, ◌%◌, refl, [], ◌∷◌}
-use Rattle.bytes_at.specs.declared.Walk.{Walk}
-use Rattle.bytes_at.specs.declared.Walk.TheVariants.{Bad}
-use Rattle.bytes_at.specs.Walks.{ends}
-use Rattle.logic.specs.Choices.{if_lt}
 use Rattle.format.specs.Formats.{Format, last_word, through, head, filled}
 use Rattle.format.specs.Values.{One}
 use Rattle.descriptor.specs.Descriptors.{descriptors}
@@ -11,7 +7,3 @@ use Rattle.descriptor.specs.Descriptors.{descriptors}
 -- a length in the low bits of 16, below m, and a descriptor list of that length: list12 and list10 walk as it does
 unfoldable pub sized_descriptors : ℕ → ℕ → Format One
 sized_descriptors judgedTag m = head (16 ∷ []) 2 refl (through (λ n. n % m) last_word) (filled 2 (descriptors judgedTag))
-
--- what a walk that stopped at a place means: before the container's end it failed by the field x
-unfoldable pub stopped : ℕ → ℕ → ℕ → Walk
-stopped end place x = if_lt place end (Bad x) (ends end place)

@@ -7,9 +7,9 @@ ghost use Rattle.format.specs.Lawful.{unto};
 ghost use Rattle.format.specs.Formats.{walks, walks_all};
 ghost use Rattle.descriptor.specs.Descriptors.{rated, region, advisory, content, descriptor, descriptors};
 ghost use Rattle.descriptor.specs.Places.{list12, list10, list_at, list_end};
-ghost use Rattle.descriptor.specs.Inner.{sized_descriptors, stopped};
+ghost use Rattle.descriptor.specs.Inner.{sized_descriptors};
 
-use bytes_at::{Walk, at_end, back, skip, skip_fields, word, word_back};
+use bytes_at::{Walk, at_end, back, repeated, skip, skip_fields, word, word_back};
 use part::Part;
 use strings::sized_text;
 
@@ -24,61 +24,42 @@ fn dimensions(end: usize, n: usize, at: usize) -> Walk
     ensures { result ≡ many (λ a. fields_to (8 ∷ 8 ∷ []) a end) n at }
 {
     if n == 0 {
-        return Walk::To(at);
+        return Ok(at);
     }
     if end < at {
-        return Walk::Bad(at);
+        return Err(at);
     }
     if n <= (end - at) / 2 {
-        Walk::To(at + 2 * n)
+        Ok(at + 2 * n)
     } else {
-        Walk::Bad(end)
+        Err(end)
     }
 }
 
 fn one_rated(s: &[u8], end: usize, at: usize) -> Walk
     ensures { result ≡ walks rated s.now end at }
 {
-    let w = skip_fields(at, 8, 8, 0, 0, end);
-    let Walk::To(b) = w else {
-        return w;
-    };
+    let b = skip_fields(at, 8, 8, 0, 0, end)?;
     dimensions(end, back(s, b, 1), b)
 }
 
 fn one_region(s: &[u8], end: usize, at: usize) -> Walk
     ensures { result ≡ walks region s.now end at }
 {
-    let w = one_rated(s, end, at);
-    let Walk::To(b) = w else {
-        return w;
-    };
+    let b = one_rated(s, end, at)?;
     sized_text(s, end, b)
 }
 
 fn regions(s: &[u8], end: usize, n: usize, from: usize) -> Walk
     ensures { result ≡ many (walks region s.now end) n from }
 {
-    let mut at = from;
-    let mut left = n;
-    while 0 < left {
-        let w = one_region(s, end, at);
-        let Walk::To(b) = w else {
-            return w;
-        };
-        at = b;
-        left -= 1;
-    }
-    Walk::To(at)
+    repeated(n, from, |at| one_region(s, end, at))
 }
 
 fn all_regions(s: &[u8], end: usize, at: usize) -> Walk
     ensures { result ≡ walks advisory s.now end at }
 {
-    let w = skip(0, at, 1, end);
-    let Walk::To(b) = w else {
-        return w;
-    };
+    let b = skip(0, at, 1, end)?;
     regions(s, end, back(s, b, 1) % 64, b)
 }
 
@@ -87,60 +68,38 @@ fn whole_content(s: &[u8], judged: usize, tag: usize, end: usize, at: usize) -> 
     ensures { result ≡ (content judged).walk tag s.now end at }
 {
     if judged == tag {
-        let w = all_regions(s, end, at);
-        let Walk::To(b) = w else {
-            return w;
-        };
+        let b = all_regions(s, end, at)?;
         at_end(b, end)
     } else {
-        Walk::To(end)
+        Ok(end)
     }
 }
 
 fn one_descriptor(s: &[u8], judged: usize, end: usize, at: usize) -> Walk
     ensures { result ≡ walks (descriptor judged) s.now end at }
 {
-    let w = skip_fields(at, 8, 8, 0, 0, end);
-    let Walk::To(b) = w else {
-        return w;
-    };
-    let v = skip(1, b, back(s, b, 1), end);
-    let Walk::To(e) = v else {
-        return v;
-    };
+    let b = skip_fields(at, 8, 8, 0, 0, end)?;
+    let e = skip(1, b, back(s, b, 1), end)?;
     whole_content(s, judged, back(s, b, 2), e, b)
 }
 
-// A descriptor list is a first descriptor and the rest: the place where the walk stops, and the field
-// that is to blame if that is before the end. All parameters are numbers and thin references and the
-// call is the last thing done, so that the compiler makes a loop of it and a list of any length takes
-// no stack.
-fn first_and_rest(s: &&[u8], judged: usize, end: usize, at: usize, blame: &mut usize) -> usize
-    ensures { (f : ℕ) → end ≤ at + f → unto (walks (descriptor judged) s.now.now) f end at ≡ stopped end result blame.new }
+// A descriptor list is a first descriptor and the rest, until the end. The call is the last thing done,
+// so that the compiler makes a loop of it and a list of any length takes no stack.
+fn first_and_rest(s: &[u8], judged: usize, end: usize, at: usize) -> Walk
+    ensures { (f : ℕ) → end ≤ at + f → result ≡ unto (walks (descriptor judged) s.now) f end at }
 {
     if end <= at {
-        return at;
+        return at_end(at, end);
     }
-    match one_descriptor(*s, judged, end, at) {
-        Walk::To(e) => first_and_rest(s, judged, end, e, blame),
-        Walk::Bad(x) => {
-            *blame = x;
-            at
-        }
-    }
+    let e = one_descriptor(s, judged, end, at)?;
+    first_and_rest(s, judged, end, e)
 }
 
 // The descriptor list from `at` to `end`; `judged` is the tag whose content is judged.
 pub fn whole_descriptors(s: &[u8], judged: usize, end: usize, at: usize) -> Walk
     ensures { result ≡ walks_all (descriptors judged) s.now end at }
 {
-    let mut blame = 0;
-    let place = first_and_rest(&s, judged, end, at, &mut blame);
-    if place < end {
-        Walk::Bad(blame)
-    } else {
-        at_end(place, end)
-    }
+    first_and_rest(s, judged, end, at)
 }
 
 // A length in the low bits of 16, below `m`, and a descriptor list of that length.
@@ -148,14 +107,8 @@ fn sized_descriptors(s: &[u8], judged: usize, m: usize, end: usize, at: usize) -
     requires { 0 < m }
     ensures { result ≡ walks (sized_descriptors judged m) s.now end at }
 {
-    let w = skip(0, at, 2, end);
-    let Walk::To(b) = w else {
-        return w;
-    };
-    let v = skip(2, b, word_back(s, b) % m, end);
-    let Walk::To(e) = v else {
-        return v;
-    };
+    let b = skip(0, at, 2, end)?;
+    let e = skip(2, b, word_back(s, b) % m, end)?;
     whole_descriptors(s, judged, e, b)
 }
 

@@ -3,7 +3,7 @@ use Prim.Native.Nat.{ℕ, ◌≤◌, ◌<◌}
 use mathlib.Core.Path.{◌≡◌, refl, subst}
 use mathlib.Core.List.{List, [], ◌∷◌}
 use native.Mathlib.Omega.{arith}
-use Rattle.bytes_at.specs.declared.Walk.TheVariants.{To}
+use Rattle.std.specs.Prelude.{Ok}
 use Rattle.bytes_at.proofs.WalkLaws.{then_inv}
 use Rattle.format.specs.Formats.{walks, walks_all}
 use Rattle.format.specs.Values.{behind}
@@ -19,14 +19,14 @@ use Rattle.eit.specs.Format.{event_head}
 use Rattle.eit.specs.Walked.{event}
 use Rattle.eit.specs.Fields.{title_part, descriptors_at, event_end}
 
-module _ (s : List ℕ) (end a b : ℕ) (w : walks event s end a ≡ To b) where
-  pub event_parts : (c : ℕ) × ((walks sized_text s end (behind event_head a) ≡ To c) × (walks (list12 content_advisory) s end c ≡ To b))
+module _ (s : List ℕ) (end a b : ℕ) (w : walks event s end a ≡ Ok b) where
+  pub event_parts : (c : ℕ) × ((walks sized_text s end (behind event_head a) ≡ Ok c) × (walks (list12 content_advisory) s end c ≡ Ok b))
   unfolding event sized_text list12
   event_parts =
       let p = then_inv _ _ b w in
       let t = fields_end 16 (32 ∷ 4 ∷ 20 ∷ []) 9 refl a end p.0 p.1.0 in
       let q = then_inv _ _ b p.1.1 in
-      (q.0, (subst (λ c. walks sized_text s end c ≡ To q.0) t.0 q.1.0, q.1.1))
+      (q.0, (subst (λ c. walks sized_text s end c ≡ Ok q.0) t.0 q.1.0, q.1.1))
 
   -- the descriptors stand where the title ends
   listed : ListPassed content_advisory 4096 s end (text_end s (behind event_head a)) b
@@ -46,7 +46,7 @@ module _ (s : List ℕ) (end a b : ℕ) (w : walks event s end a ≡ To b) where
       let l = list12_passed content_advisory s end p.0 b p.1.1 in
       (omega arith, l.inside)
 
-  pub title_sound : (end_of (title_part s a) ≤ end) × (walks_all text s (end_of (title_part s a)) (title_part s a).start ≡ To (end_of (title_part s a)))
+  pub title_sound : (end_of (title_part s a) ≤ end) × (walks_all text s (end_of (title_part s a)) (title_part s a).start ≡ Ok (end_of (title_part s a)))
   unfolding title_part text_at text_end
   title_sound =
       let p = event_parts in
@@ -54,6 +54,6 @@ module _ (s : List ℕ) (end a b : ℕ) (w : walks event s end a ≡ To b) where
       (omega (arith, e, text_inside s end (behind event_head a) p.0 p.1.0), text_sound s end (behind event_head a) p.0 p.1.0)
 
   pub descriptors_sound : (end_of (descriptors_at s a) ≤ end)
-      × (walks_all (descriptors content_advisory) s (end_of (descriptors_at s a)) (descriptors_at s a).start ≡ To (end_of (descriptors_at s a)))
+      × (walks_all (descriptors content_advisory) s (end_of (descriptors_at s a)) (descriptors_at s a).start ≡ Ok (end_of (descriptors_at s a)))
   unfolding descriptors_at list_at list_end
   descriptors_sound = let l = listed in (omega arith, l.sound)

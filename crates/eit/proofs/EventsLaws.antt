@@ -1,10 +1,10 @@
 -- The events of a body that was walked, one after the other, and the search among them.
-use Prim.Native.Nat.{ℕ, zero, suc, ◌-◌, ◌≤◌, ◌<◌}
+use Prim.Native.Nat.{ℕ, zero, suc, ◌+◌, ◌-◌, ◌≤◌, ◌<◌}
 use mathlib.Core.Path.{◌≡◌, refl, ap, subst}
 use mathlib.Core.List.{List, []}
 use native.Mathlib.Numerals.{sub-one}
 use native.Mathlib.Omega.{arith}
-use Rattle.bytes_at.specs.declared.Walk.TheVariants.{To}
+use Rattle.std.specs.Prelude.{Ok, None, Some}
 use Rattle.bytes_at.specs.Fields.{byte_at}
 use Rattle.bytes_at.specs.Walks.{many}
 use Rattle.bytes_at.specs.Inner.{Stands}
@@ -12,15 +12,21 @@ use Rattle.bytes_at.proofs.WalkLaws.{then_inv, many_inv}
 use Rattle.logic.proofs.ChoiceLaws.{eq_yes, eq_no}
 use Rattle.format.specs.Formats.{walks, walks_all}
 use Rattle.format.proofs.FieldLaws.{fields_end}
-use Rattle.eit.specs.declared.search.Sought.TheVariants.{At, Nowhere}
 use Rattle.eit.specs.Walked.{event, events, eit}
 use Rattle.eit.specs.Fields.{count_at, first_at, head_at, event_end}
 use Rattle.eit.specs.Questions.{find_from}
 use Rattle.eit.specs.Inner.{Events}
 use Rattle.eit.proofs.EventLaws.{event_forward, event_ends}
 
+-- of n, as many as are left before the first, and behind one more
+pub all_left : (n : ℕ) → n - 0 ≡ n
+all_left n = omega arith
+
+pub one_less : (n i : ℕ) → n - (i + 1) ≡ n - i - 1
+one_less n i = omega arith
+
 -- as many as are counted, from behind the count on
-pub body_events : (s : List ℕ) (end at e : ℕ) → walks_all eit s end at ≡ To e
+pub body_events : (s : List ℕ) (end at e : ℕ) → walks_all eit s end at ≡ Ok e
     → Stands (many (walks event s end) (count_at s at) (first_at at)) × (first_at at ≤ end)
 unfolding eit events
 body_events s end at e w =
@@ -38,7 +44,7 @@ events_step s n a v h =
     let f = event_forward s v.end a m.0 m.1.0 in
     record {
       end = v.end;
-      stands = (v.stands.0, subst (λ b. many (walks event s v.end) (n - 1) b ≡ To v.stands.0) e m.1.1);
+      stands = (v.stands.0, subst (λ b. many (walks event s v.end) (n - 1) b ≡ Ok v.stands.0) e m.1.1);
       begins = omega (arith, e, f, v.inside);
       inside = v.inside;
       small = v.small;
@@ -46,7 +52,7 @@ events_step s n a v h =
 
 -- the first that has an id: it is this one, one of those that follow, or none
 module _ (s : List ℕ) (id : ℕ) where
-  pub find_here : (n a : ℕ) → 0 < n → (head_at s a).id ≡ id → At a ≡ find_from s id n a
+  pub find_here : (n a : ℕ) → 0 < n → (head_at s a).id ≡ id → Some a ≡ find_from s id n a
   unfolding find_from
   find_here zero a h e = absurd (omega arith)
   find_here (suc n) a h e = eq_yes (head_at s a).id id _ _ e refl
@@ -56,6 +62,6 @@ module _ (s : List ℕ) (id : ℕ) where
   find_next zero a h e = absurd (omega arith)
   find_next (suc n) a h e = rw sub-one (eq_no (head_at s a).id id _ _ e refl)
 
-  pub find_none : (n a : ℕ) → n ≡ 0 → Nowhere ≡ find_from s id n a
+  pub find_none : (n a : ℕ) → n ≡ 0 → None ≡ find_from s id n a
   unfolding find_from
   find_none n a e = rw e

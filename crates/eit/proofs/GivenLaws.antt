@@ -6,13 +6,14 @@ use mathlib.Core.Bool.{Bool, true, false}
 use mathlib.Core.List.{List, [], ◌∷◌, ◌++◌}
 use native.Mathlib.Numerals.{sub-one}
 use native.Mathlib.Omega.{arith}
-use lib.ListN.{length, length-append}
+use lib.ListN.{length, length-append, take, drop}
 use lib.Dec.{ltb}
 use borrow.Author.Tests.{ltb-true, leb-true, lt-ltb, lt-leb, le-leb}
 use Rattle.logic.specs.Loops.{◌&◌}
-use Rattle.logic.proofs.LoopLaws.{true_false, isnt, same_truth, and_left, and_right, and_i, and_no_left}
-use Rattle.bytes_at.specs.declared.Walk.{Walk}
-use Rattle.bytes_at.specs.declared.Walk.TheVariants.{To, Bad}
+use Rattle.logic.proofs.LoopLaws.{true_false, same_truth, and_left, and_right, and_i, and_no_left}
+use Rattle.bytes_at.specs.Walks.{Walk}
+use Rattle.std.specs.Prelude.{Ok, Err, slice_range, is_ok}
+use Rattle.std.specs.Result.{is_ok}
 use Rattle.bytes_at.specs.Inner.{Stands}
 use Rattle.format.specs.Repeats.{Bytes, All, encs}
 use Rattle.format.specs.Formats.{Filling, any_bytes, walks_all}
@@ -61,9 +62,6 @@ row_fit rows a r =
     and_i _ _ (lt-ltb _ _ r.id) (and_i _ _ (lt-ltb _ _ r.start) (and_i _ _ (lt-ltb _ _ r.etm) (and_i _ _ (lt-ltb _ _ r.seconds)
     (and_i _ _ (lt-ltb _ _ r.title) (lt-ltb _ _ r.list)))))
 
-pub row_unfit : (rows : List ℕ) (a : ℕ) → (HasRoom rows a → ⊥) → false ≡ row_fits rows a
-row_unfit rows a h = sym (isnt (row_fits rows a) (λ e. h (row_room rows a e)))
-
 -- where all numbers but the last have room, it decides
 pub row_last : (rows : List ℕ) (a x : ℕ) → x ≡ (list_given rows a).length → ((list_given rows a).length < 4096 → HasRoom rows a)
     → ltb x 4096 ≡ row_fits rows a
@@ -72,8 +70,12 @@ row_last rows a x e h =
     (λ t. lt-ltb x 4096 (omega (arith, e, (row_room rows a t).list)))
 
 pub stands_yes : (w : Walk) → stands w ≡ true → Stands w
-stands_yes (To e) h = (e, refl)
-stands_yes (Bad x) h = true_false (stands (Bad x)) h refl
+stands_yes (Ok e) h = (e, refl)
+stands_yes (Err x) h = true_false (stands (Err x)) h refl
+
+stands_is : (w : Walk) → is_ok w ≡ stands w
+stands_is (Ok e) = refl
+stands_is (Err x) = refl
 
 -- a part lies within the bytes, and on its own it is walked
 abbrev pub Sound : Filling One → List ℕ → Part → Type 0
@@ -93,6 +95,13 @@ module _ (f : Filling One) (bytes : List ℕ) (p : Part) where
       → r ≡ stands w → r ≡ part_sound f bytes p
   unfolding part_sound ◌&◌
   part_told h e k g = rw (le-leb _ _ h) (g ∙ ap stands (k ∙ ap (λ l. walks_all f l (length l) 0) e))
+
+  -- the same of a slice, and of what `is_ok` says of a walk
+  pub part_sliced : {t : List ℕ} {w : Walk} {r : Bool} → end_of p ≤ length bytes → t ≡ slice_range bytes p.start (end_of p)
+      → w ≡ walks_all f t (length t) 0 → r ≡ is_ok w → r ≡ part_sound f bytes p
+  part_sliced h e k g =
+      let n : end_of p - p.start ≡ p.length = omega arith in
+      part_told h (e ∙ ap (λ (i : ℕ). take i (drop p.start bytes)) n) k (g ∙ stands_is _)
 
 pub row_sound_lem : (rows bytes : List ℕ) (a : ℕ) → row_sound rows bytes a ≡ true
     → Sound text bytes (title_given rows a) × Sound (descriptors content_advisory) bytes (list_given rows a)
@@ -120,6 +129,10 @@ event_length rows bytes a h k =
     simp (length-append, bytes_length) (omega arith)
 
 -- ---- rows
+-- where the row behind row i begins
+pub next_row : (i : ℕ) → 8 * (i + 1) ≡ 8 * i + 8
+next_row i = omega arith
+
 -- a test of n rows is a test of each
 pub record Each (all : ℕ → ℕ → Bool) (one : ℕ → Bool) : Type 0 where
   pub none : (a : ℕ) → all 0 a ≡ true
@@ -197,7 +210,7 @@ module _ (rows : List ℕ) where
 -- e is the event of the row that begins at a: it is well formed, its bytes are those that are written, its parts are those given,
 -- and its reserved bits are ones
 pub record IsGiven (rows bytes : List ℕ) (a : ℕ) (e : EventFields) : Type 0 where
-  pub good : event_format.Ok (record {}) e
+  pub good : event_format.Formed (record {}) e
   pub same : event_format.enc e ≡ (event_of any_bytes any_bytes).enc (event_given rows bytes a)
   pub head : e.head ≡ head_given rows a
   pub title : text.enc e.title ≡ bytes_in bytes (title_given rows a)
@@ -211,7 +224,7 @@ AreGiven rows bytes a (e ∷ es) = IsGiven rows bytes a e × AreGiven rows bytes
 
 module _ (rows bytes : List ℕ) where
   -- so they are all well formed, their reserved bits are ones, and their bytes are those that are written
-  pub given_good : (a : ℕ) (es : List EventFields) → AreGiven rows bytes a es → All (event_format.Ok (record {})) es
+  pub given_good : (a : ℕ) (es : List EventFields) → AreGiven rows bytes a es → All (event_format.Formed (record {})) es
   given_good a [] g = record {}
   given_good a (e ∷ es) g = (g.0.good, given_good (a + 8) es g.1)
 
@@ -266,7 +279,7 @@ module _ (rows bytes : List ℕ) (z : Bytes bytes) where
 
   -- and the body of as many events as its count can tell is a body of the judged format
   pub body_given : (n : ℕ) → n < 256 → rows_fit rows n 0 ≡ true → rows_sound rows bytes n 0 ≡ true
-      → (b : EitFields) × ((eit_format.Ok (record {}) b × (eit_format.enc b ≡ (eit_of any_bytes any_bytes).enc (record { events = events_given rows bytes n 0 })))
+      → (b : EitFields) × ((eit_format.Formed (record {}) b × (eit_format.enc b ≡ (eit_of any_bytes any_bytes).enc (record { events = events_given rows bytes n 0 })))
       × (AreGiven rows bytes 0 b.events × (length b.events ≡ n)))
   body_given n h f s =
       let es = events_given_lem n 0 f s in
@@ -281,3 +294,8 @@ module _ (rows bytes : List ℕ) (z : Bytes bytes) where
           es.1,
         ),
       )
+
+-- a walk that stands is one that is answered by a place
+pub stood : (w : Walk) {b : Bool} → b ≡ is_ok w → b ≡ stands w
+stood (Ok e) h = h
+stood (Err x) h = h

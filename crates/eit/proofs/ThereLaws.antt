@@ -31,7 +31,7 @@ use Rattle.eit.proofs.EventLaws.{event_ends}
 use Rattle.eit.proofs.TitleLaws.{title_is}
 
 -- ---- an event
-module _ (s : List ℕ) (z : Bytes s) (a : ℕ) (e : EventFields) (o : event_format.Ok (record {}) e) (l : Lies (event_format.enc e) s a) where
+module _ (s : List ℕ) (z : Bytes s) (a : ℕ) (e : EventFields) (o : event_format.Formed (record {}) e) (l : Lies (event_format.enc e) s a) where
   -- its parts, in the order of their bytes
   parts_lie : Lies (bytes_of 9 (number event_head (head_of e.head))) s a
       × (Lies ((sized8 text).enc (record {}, e.title)) s (behind event_head a)
@@ -62,14 +62,14 @@ module _ (s : List ℕ) (z : Bytes s) (a : ℕ) (e : EventFields) (o : event_for
       let at : behind event_head a + length ((sized8 text).enc (record {}, e.title)) ≡ end_of (title_place a e) = omega arith in
       list12_there content_advisory s (end_of (title_place a e)) z e.r e.descs o.1.1 (lies_at _ s _ _ at parts_lie.1.1)
 
-  pub title_lies : text.Ok (record {}) e.title × Lies (text.enc e.title) s (title_place a e).start
+  pub title_lies : text.Formed (record {}) e.title × Lies (text.enc e.title) s (title_place a e).start
   title_lies = (o.1.0.1.1.1, title_placed.1)
 
   pub title_there : title_at s a ≡ title_for e.title (title_place a e)
   unfolding title_at
   title_there = rw title_placed.0 (title_is s z (behind event_head a + 1) e.title title_lies.0 title_lies.1)
 
-  pub descriptors_lie : (descriptors content_advisory).Ok (record {}) e.descs
+  pub descriptors_lie : (descriptors content_advisory).Formed (record {}) e.descs
       × Lies ((descriptors content_advisory).enc e.descs) s (descriptors_place a e).start
   descriptors_lie = (o.1.1.1.1.1, descriptors_placed.1)
 
@@ -112,7 +112,7 @@ pub same_walk : (s : List ℕ) (end at : ℕ) → walks_all eit s end at ≡ wal
 unfolding eit events event
 same_walk s end at = refl
 
-module _ (s : List ℕ) (z : Bytes s) (at end : ℕ) (b : EitFields) (o : eit_format.Ok (record {}) b) (l : Lies (eit_format.enc b) s at)
+module _ (s : List ℕ) (z : Bytes s) (at end : ℕ) (b : EitFields) (o : eit_format.Formed (record {}) b) (l : Lies (eit_format.enc b) s at)
     (whole : end ≡ at + length (eit_format.enc b)) where
   pub entries_there : (count_at s at ≡ length b.events) × Stand event_format s end (first_at at) b.events
   entries_there =

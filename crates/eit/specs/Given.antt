@@ -1,9 +1,8 @@
 -- SCOPE 2.4, 7.1 and 7.2, and 6, numbers 23 and 9: events that are given to be written, in rows of eight numbers as the rows of an EIT are read. The
 -- places of titles and of descriptor lists are parts of one list of bytes.
-use Rattle.std.specs.Prelude.{ℕ, zero, suc, ◌+◌, Bool, true, false, List, [], ◌∷◌, length, get_or, ltb, leb}
+use Rattle.std.specs.Prelude.{ℕ, zero, suc, ◌+◌, Bool, true, false, List, [], ◌∷◌, length, get_or, ltb, leb, Ok, Err}
 use Rattle.logic.specs.Loops.{◌&◌}
-use Rattle.bytes_at.specs.declared.Walk.{Walk}
-use Rattle.bytes_at.specs.declared.Walk.TheVariants.{To, Bad}
+use Rattle.bytes_at.specs.Walks.{Walk}
 use Rattle.format.specs.Formats.{Filling, walks_all}
 use Rattle.format.specs.Values.{One}
 use Rattle.part.specs.declared.Part.{Part}
@@ -55,8 +54,8 @@ rows_fit rows (suc n) a = row_fits rows a & rows_fit rows n (a + 8)
 
 -- ---- 9: a part that lies within the bytes and that a format's walk accepts on its own, as reading would
 abbrev pub stands : Walk → Bool
-stands (To e) = true
-stands (Bad x) = false
+stands (Ok e) = true
+stands (Err x) = false
 
 unfoldable pub part_sound : Filling One → List ℕ → Part → Bool
 part_sound f bytes p = leb (end_of p) (length bytes) & stands (walks_all f (bytes_in bytes p) (length (bytes_in bytes p)) 0)

@@ -1,6 +1,5 @@
 -- SCOPE 2.4: what is answered for a value of the EIT's format, by the record alone, where its encoding lies at a place.
-use Rattle.std.specs.Prelude.{ℕ, ◌+◌, ◌≡◌, List, [], ◌∷◌, ◌++◌, length}
-use Rattle.std.proofs.Math.Option.{none, some}
+use Rattle.std.specs.Prelude.{ℕ, ◌+◌, ◌≡◌, List, [], ◌∷◌, ◌++◌, length, None, Some}
 use Rattle.format.specs.Repeats.{All}
 use Rattle.format.specs.Values.{Ones, behind}
 use Rattle.part.specs.declared.Part.{Part}
@@ -18,9 +17,9 @@ use Rattle.eit.specs.Format.{event_head, head_of, EventFields, EitFields}
 -- the sort of a text that stands at a part
 unfoldable pub title_for : text.Val → Part → Title
 unfolding text structure
-title_for none p = None
-title_for (some []) p = NoStrings
-title_for (some (x ∷ xs)) p = Text p
+title_for None p = None
+title_for (Some []) p = NoStrings
+title_for (Some (x ∷ xs)) p = Text p
 
 -- where the title stands: after the head and a length of one byte
 abbrev pub title_place : ℕ → EventFields → Part

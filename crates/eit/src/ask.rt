@@ -1,10 +1,11 @@
 // What is asked of the event that begins at a.
 ghost use Rattle.std.specs.Prelude.{◌≡◌, ◌≤◌, length};
-ghost use Rattle.rating.specs.Ratings.{rated_of, sought_descriptor, sought_text};
+ghost use Rattle.rating.specs.Ratings.{rated_of};
 ghost use Rattle.eit.specs.Questions.{rating_at, event_descriptor, advisory_text_at};
 
 use crate::event::descriptors_at;
-use rating::{Rating, SoughtDescriptor, SoughtText, advisory_text_in, descriptor_in, rating_in};
+use part::Part;
+use rating::{Descriptor, Rating, advisory_text_in, descriptor_in, rating_in};
 
 // The rating for a region and a dimension.
 pub fn rating_at(s: &[u8], a: usize, region: usize, dimension: usize) -> Rating
@@ -17,9 +18,9 @@ pub fn rating_at(s: &[u8], a: usize, region: usize, dimension: usize) -> Rating
 }
 
 // Descriptor k, from 0.
-pub fn descriptor_at(s: &[u8], a: usize, k: usize) -> SoughtDescriptor
+pub fn descriptor_at(s: &[u8], a: usize, k: usize) -> Option<Descriptor>
     requires { a ≤ length s.now }
-    ensures { sought_descriptor result ≡ event_descriptor s.now a k }
+    ensures { result ≡ event_descriptor s.now a k }
 {
     let d = descriptors_at(s, a);
     let from = d.start;
@@ -27,9 +28,9 @@ pub fn descriptor_at(s: &[u8], a: usize, k: usize) -> SoughtDescriptor
 }
 
 // The text of the first such region in the first content advisory.
-pub fn advisory_text_at(s: &[u8], a: usize, region: usize) -> SoughtText
+pub fn advisory_text_at(s: &[u8], a: usize, region: usize) -> Option<Part>
     requires { a ≤ length s.now }
-    ensures { sought_text result ≡ advisory_text_at s.now a region }
+    ensures { result ≡ advisory_text_at s.now a region }
 {
     let d = descriptors_at(s, a);
     let from = d.start;

@@ -30,16 +30,11 @@ pub struct Event {
 pub fn title_of(s: &[u8], start: usize, n: usize) -> Title
     ensures { result ≡ title_of s.now start n }
 {
-    if n == 0 {
-        return Title::None;
+    match n {
+        0 => Title::None,
+        1 if byte(s, start) == 0 => Title::NoStrings,
+        _ => Title::Text(Part { start, length: n }),
     }
-    if n == 1 {
-        if byte(s, start) == 0 {
-            return Title::NoStrings;
-        }
-        return Title::Text(Part { start, length: n });
-    }
-    Title::Text(Part { start, length: n })
 }
 
 // Where the title stands.

@@ -5,7 +5,7 @@ ghost use Rattle.eit.specs.Fields.{event_end, times_row, event_row};
 
 use crate::event::{descriptors_at, event_end, title_part};
 use bytes_at::{byte, long, word};
-use row::{narrow, put_part, put4};
+use row::{narrow, put_all, put_part};
 
 // The first four numbers of a row, from p on.
 fn put_times(s: &[u8], a: usize, p: usize, out: &mut [u32])
@@ -13,10 +13,13 @@ fn put_times(s: &[u8], a: usize, p: usize, out: &mut [u32])
     ensures { out.new ≡ sets out.old p (times_row s.now a) }
 {
     let x = byte(s, a + 6);
-    let id = narrow(word(s, a) % 16384);
-    let start = narrow(long(s, a + 2));
-    let seconds = narrow(x % 16 * 65536 + word(s, a + 7));
-    put4(out, p, id, start, narrow(x / 16 % 4), seconds);
+    let numbers = [
+        narrow(word(s, a) % 16384),
+        narrow(long(s, a + 2)),
+        narrow(x / 16 % 4),
+        narrow(x % 16 * 65536 + word(s, a + 7)),
+    ];
+    put_all(out, p, numbers);
 }
 
 // The row of the event that begins at a, from p on, and where the next event begins.

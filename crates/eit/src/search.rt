@@ -6,25 +6,17 @@ ghost use Rattle.eit.specs.Inner.{Events};
 use crate::event::event_end;
 use bytes_at::word;
 
-#[derive(Clone, Copy)]
-pub enum Sought {
-    At(usize),
-    Nowhere,
-}
-
 // Where the first of n events that has this id begins; the first of them begins at `from`.
-pub fn find(s: &[u8], n: usize, from: usize, id: usize) -> Sought
+pub fn find(s: &[u8], n: usize, from: usize, id: usize) -> Option<usize>
     requires { Events s.now n from }
     ensures { result ≡ find_from s.now id n from }
 {
     let mut a = from;
-    let mut left = n;
-    while 0 < left {
+    for _ in 0..n {
         if word(s, a) % 16384 == id {
-            return Sought::At(a);
+            return Some(a);
         }
         a = event_end(s, a);
-        left -= 1;
     }
-    Sought::Nowhere
+    None
 }

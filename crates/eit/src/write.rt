@@ -10,12 +10,11 @@ ghost use Rattle.strings.specs.Strings.{text};
 ghost use Rattle.descriptor.specs.Descriptors.{descriptors, content_advisory};
 ghost use Rattle.eit.specs.Format.{event_head, head_of, event_of, eit_of};
 ghost use Rattle.eit.specs.Inner.{RowGiven, RowsGiven, size_given};
-ghost use Rattle.eit.specs.Given.{head_given, title_given, list_given, event_given, events_given, row_fits, rows_fit, stands, part_sound, row_sound, rows_sound};
+ghost use Rattle.eit.specs.Given.{head_given, title_given, list_given, event_given, events_given, row_fits, rows_fit, part_sound, row_sound, rows_sound};
 
-use bytes_at::Walk;
-use bytes_put::{put_byte, put_long, put_part, put_three, put_word};
+use bytes_put::{put_number, put_part};
 use descriptor::{CONTENT_ADVISORY, whole_descriptors};
-use part::{Part, part_of};
+use part::Part;
 use strings::whole_text;
 
 // A number of the rows; each of them has 32 bits.
@@ -31,19 +30,11 @@ fn row_fits(rows: &[u32], a: usize) -> bool
     requires { a + 8 ≤ length rows.now }
     ensures { result ≡ row_fits rows.now a }
 {
-    if number_at(rows, a) >= 16384 {
-        return false;
-    }
-    if number_at(rows, a + 2) >= 4 {
-        return false;
-    }
-    if number_at(rows, a + 3) >= 1048576 {
-        return false;
-    }
-    if number_at(rows, a + 5) >= 256 {
-        return false;
-    }
-    number_at(rows, a + 7) < 4096
+    number_at(rows, a) < 16384
+        && number_at(rows, a + 2) < 4
+        && number_at(rows, a + 3) < 1048576
+        && number_at(rows, a + 5) < 256
+        && number_at(rows, a + 7) < 4096
 }
 
 // 23: every number of the first n rows has room in its field.
@@ -51,14 +42,10 @@ pub fn rows_fit(rows: &[u32], n: usize) -> bool
     requires { 8 * n ≤ length rows.now }
     ensures { result ≡ rows_fit rows.now n 0 }
 {
-    let mut a = 0;
-    let mut left = n;
-    while 0 < left {
-        if !row_fits(rows, a) {
+    for i in 0..n {
+        if !row_fits(rows, 8 * i) {
             return false;
         }
-        a += 8;
-        left -= 1;
     }
     true
 }
@@ -84,25 +71,15 @@ fn list_given(rows: &[u32], a: usize) -> Part
     }
 }
 
-fn stood(w: Walk) -> bool
-    ensures { result ≡ stands w }
-{
-    match w {
-        Walk::To(_e) => true,
-        Walk::Bad(_x) => false,
-    }
-}
-
 // A title that lies within the bytes, and that reading would accept.
 fn title_sound(bytes: &[u8], p: Part) -> bool
     requires { (p.start < 4294967296) × (p.length < 4294967296) }
     ensures { result ≡ part_sound text bytes.now p }
 {
-    if bytes.len() < p.start + p.length {
-        return false;
+    match bytes.get(p.start..p.start + p.length) {
+        Some(t) => whole_text(t, t.len(), 0).is_ok(),
+        None => false,
     }
-    let t = part_of(bytes, p.start, p.length);
-    stood(whole_text(t, t.len(), 0))
 }
 
 // The same for descriptors.
@@ -110,21 +87,17 @@ fn list_sound(bytes: &[u8], p: Part) -> bool
     requires { (p.start < 4294967296) × (p.length < 4294967296) }
     ensures { result ≡ part_sound (descriptors content_advisory) bytes.now p }
 {
-    if bytes.len() < p.start + p.length {
-        return false;
+    match bytes.get(p.start..p.start + p.length) {
+        Some(d) => whole_descriptors(d, CONTENT_ADVISORY, d.len(), 0).is_ok(),
+        None => false,
     }
-    let d = part_of(bytes, p.start, p.length);
-    stood(whole_descriptors(d, CONTENT_ADVISORY, d.len(), 0))
 }
 
 fn row_sound(rows: &[u32], a: usize, bytes: &[u8]) -> bool
     requires { a + 8 ≤ length rows.now }
     ensures { result ≡ row_sound rows.now bytes.now a }
 {
-    if !title_sound(bytes, title_given(rows, a)) {
-        return false;
-    }
-    list_sound(bytes, list_given(rows, a))
+    title_sound(bytes, title_given(rows, a)) && list_sound(bytes, list_given(rows, a))
 }
 
 // 9: every title and descriptor list of the first n rows lies within the bytes, and reading would
@@ -133,14 +106,10 @@ pub fn rows_sound(rows: &[u32], n: usize, bytes: &[u8]) -> bool
     requires { 8 * n ≤ length rows.now }
     ensures { result ≡ rows_sound rows.now bytes.now n 0 }
 {
-    let mut a = 0;
-    let mut left = n;
-    while 0 < left {
-        if !row_sound(rows, a, bytes) {
+    for i in 0..n {
+        if !row_sound(rows, 8 * i, bytes) {
             return false;
         }
-        a += 8;
-        left -= 1;
     }
     true
 }
@@ -151,12 +120,8 @@ pub fn events_size(rows: &[u32], n: usize) -> usize
     ensures { result ≡ size_given rows.now n 0 }
 {
     let mut size = 0;
-    let mut a = 0;
-    let mut left = n;
-    while 0 < left {
-        size += 12 + number_at(rows, a + 5) + number_at(rows, a + 7);
-        a += 8;
-        left -= 1;
+    for i in 0..n {
+        size += 12 + number_at(rows, 8 * i + 5) + number_at(rows, 8 * i + 7);
     }
     size
 }
@@ -166,9 +131,9 @@ fn put_head(rows: &[u32], a: usize, out: &mut [u8], at: usize)
     requires { (a + 8 ≤ length rows.now) × ((row_fits rows.now a ≡ true) × (at + 9 ≤ length out.old)) }
     ensures { out.new ≡ sets out.old at (bytes_of 9 (number event_head (head_of (head_given rows.now a)))) }
 {
-    put_word(out, at, 0xC000 + number_at(rows, a));
-    put_long(out, at + 2, number_at(rows, a + 1));
-    put_three(
+    put_number::<2>(out, at, 0xC000 + number_at(rows, a));
+    put_number::<4>(out, at + 2, number_at(rows, a + 1));
+    put_number::<3>(
         out,
         at + 6,
         (12 + number_at(rows, a + 2)) * 1048576 + number_at(rows, a + 3),
@@ -180,7 +145,7 @@ fn put_title(bytes: &[u8], p: Part, out: &mut [u8], at: usize)
     requires { ((end_of p ≤ length bytes.now) × (p.length < 256)) × (at + 1 + p.length ≤ length out.old) }
     ensures { out.new ≡ sets out.old at ((sized8 any_bytes).enc (record {}, bytes_in bytes.now p)) }
 {
-    put_byte(out, at, p.length);
+    put_number::<1>(out, at, p.length);
     put_part(out, at + 1, bytes, p);
 }
 
@@ -188,7 +153,7 @@ fn put_list(bytes: &[u8], p: Part, out: &mut [u8], at: usize)
     requires { ((end_of p ≤ length bytes.now) × (p.length < 4096)) × (at + 2 + p.length ≤ length out.old) }
     ensures { out.new ≡ sets out.old at ((sized12 any_bytes).enc ((15, record {}), bytes_in bytes.now p)) }
 {
-    put_word(out, at, 0xF000 + p.length);
+    put_number::<2>(out, at, 0xF000 + p.length);
     put_part(out, at + 2, bytes, p);
 }
 
@@ -211,13 +176,9 @@ pub fn put_events(rows: &[u32], n: usize, bytes: &[u8], out: &mut [u8], at: usiz
     requires { RowsGiven rows.now bytes.now n 0 × (at + size_given rows.now n 0 ≤ length out.old) }
     ensures { out.new ≡ sets out.old at (encs (event_of any_bytes any_bytes).enc (events_given rows.now bytes.now n 0)) }
 {
-    let mut a = 0;
     let mut next = at;
-    let mut left = n;
-    while 0 < left {
-        next = put_event(rows, a, bytes, out, next);
-        a += 8;
-        left -= 1;
+    for i in 0..n {
+        next = put_event(rows, 8 * i, bytes, out, next);
     }
 }
 
@@ -226,6 +187,6 @@ pub fn put_body(rows: &[u32], n: usize, bytes: &[u8], out: &mut [u8], at: usize)
     requires { (RowsGiven rows.now bytes.now n 0 × (n ≤ 255)) × (at + 1 + size_given rows.now n 0 ≤ length out.old) }
     ensures { out.new ≡ sets out.old at ((eit_of any_bytes any_bytes).enc (record { events = events_given rows.now bytes.now n 0 })) }
 {
-    put_byte(out, at, n);
+    put_number::<1>(out, at, n);
     put_events(rows, n, bytes, out, at + 1);
 }

@@ -1,4 +1,3 @@
 pub mod EntryLaws
 pub mod ValueLaws
-pub mod OnceLaws
 pub mod RecordLaws

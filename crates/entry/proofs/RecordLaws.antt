@@ -37,7 +37,7 @@ use Rattle.entry.specs.Records.{kind_of_entry, start_of, record_of, entries_of, 
 
 -- ---- what is told of number i, where so many are counted
 module _ (f : Format One) (s : List ℕ) (end : ℕ) {A : Type 0} (answer : ℕ → Outcome A) (told : ℕ → f.Val → Outcome A)
-    (same : (a : ℕ) (x : f.Val) → f.Ok (record {}) x → Lies (f.enc x) s a → a + length (f.enc x) ≤ end → answer a ≡ told a x)
+    (same : (a : ℕ) (x : f.Val) → f.Formed (record {}) x → Lies (f.enc x) s a → a + length (f.enc x) ≤ end → answer a ≡ told a x)
     (first : ℕ) (xs : List f.Val) (g : Stand f s end first xs) where
   pub counted_told : (i n : ℕ) → n ≡ length xs
       → after (or_refuse 13 (ltb i n) (standing (many (walks f s end) i first))) answer ≡ nth_of f.enc told (refused 13) first xs i
@@ -88,7 +88,7 @@ module _ (e : Entry) (y : Section (kind_of_entry e)) (o : WellFormed (kind_of_en
 
   -- what is read of the place where entry i begins is what is told of entry i
   module _ {A : Type 0} (answer : ℕ → Outcome A) (told : ℕ → (record_of e).Val → Outcome A)
-      (same : (a : ℕ) (x : (record_of e).Val) → (record_of e).Ok (record {}) x → Lies ((record_of e).enc x) (encode y) a
+      (same : (a : ℕ) (x : (record_of e).Val) → (record_of e).Formed (record {}) x → Lies ((record_of e).enc x) (encode y) a
       → a + length ((record_of e).enc x) ≤ length (encode y) - 4 → answer a ≡ told a x) where
     pub spot_in_told : (i : ℕ) → after (spot_in e (encode y) i) answer ≡ of_entry e told i y
     unfolding spot_in
@@ -123,9 +123,9 @@ value_walk : (s : List ℕ) (end a : ℕ) → walks value s end a ≡ walks valu
 unfolding value
 value_walk s end a = refl
 
-module _ (s : List ℕ) (z : Bytes s) (d : ℕ) (x : DimensionFields) (o : dimension_format.Ok (record {}) x) (l : Lies (dimension_format.enc x) s d)
+module _ (s : List ℕ) (z : Bytes s) (d : ℕ) (x : DimensionFields) (o : dimension_format.Formed (record {}) x) (l : Lies (dimension_format.enc x) s d)
     (inside : d + length (dimension_format.enc x) ≤ length s - 4) {A : Type 0} (answer : ℕ → Outcome A) (told : ℕ → value_format.Val → Outcome A)
-    (same : (a : ℕ) (v : value_format.Val) → value_format.Ok (record {}) v → Lies (value_format.enc v) s a
+    (same : (a : ℕ) (v : value_format.Val) → value_format.Formed (record {}) v → Lies (value_format.enc v) s a
     → a + length (value_format.enc v) ≤ length s - 4 → answer a ≡ told a v) where
   pub value_told_lem : (j : ℕ) → after (value_spot s d j) answer ≡ of_value told j d x
   unfolding value_spot

@@ -6,7 +6,7 @@ use mathlib.Core.List.{List}
 use native.Mathlib.Nat.{eq-zero-or-pos}
 use native.Mathlib.Omega.{arith}
 use lib.ListN.{length}
-use Rattle.bytes_at.specs.declared.Walk.TheVariants.{To}
+use Rattle.std.specs.Prelude.{Ok}
 use Rattle.bytes_at.specs.Fields.{byte_at}
 use Rattle.bytes_at.specs.Walks.{many, standing}
 use Rattle.bytes_at.specs.Inner.{Stands}
@@ -25,7 +25,7 @@ use Rattle.entry.specs.Entries.{value_spot}
 present : (s : List ℕ) (i : ℕ) → 0 < byte_at s i → i < length s
 present s i h = ⊎_elim (λ e. absurd (omega (arith, past s i (omega arith)))) (λ e. omega arith) (eq-zero-or-pos (length s - i))
 
-pub values_inside : (s : List ℕ) (d j a : ℕ) → j < values_at s d → many (walks value s (length s - 4)) j (first_value_at s d) ≡ To a → a ≤ length s
+pub values_inside : (s : List ℕ) (d j a : ℕ) → j < values_at s d → many (walks value s (length s - 4)) j (first_value_at s d) ≡ Ok a → a ≤ length s
 values_inside s d j a h w =
     let t = present s (text_end s d) (omega arith) in
     many_in _ (length s) (λ b c v. let u = value_forward s (length s - 4) b c v in omega arith) j (first_value_at s d) a (omega arith) w
@@ -41,7 +41,7 @@ module _ (s : List ℕ) (d j : ℕ) where
   value_none h = stops_lt 13 j (values_at s d) (standing (many (walks value s (length s - 4)) j (first_value_at s d))) h refl
 
 -- of a dimension that stands: a value that it has is found, and one that is found stands
-module _ (s : List ℕ) (d b : ℕ) (w : walks dimension s (length s - 4) d ≡ To b) where
+module _ (s : List ℕ) (d b : ℕ) (w : walks dimension s (length s - 4) d ≡ Ok b) where
   pub value_found : (j : ℕ) → j < values_at s d → (a : ℕ) × (value_spot s d j ≡ resulted a)
   value_found j l =
       let v = (values_walked s (length s - 4) d b w).0 in

@@ -1,9 +1,7 @@
 -- SCOPE 2 and 6.2: the entries that tables repeat, and where entry i of a section begins: 1 to 9, then 13.
 use Rattle.std.specs.Prelude.{ℕ, ◌-◌, List, length, ltb}
-use Rattle.bytes_at.specs.declared.Walk.{Walk}
-use Rattle.bytes_at.specs.Walks.{many, standing}
-use Rattle.refusal.specs.Numbers.{number_of}
-use Rattle.refusal.specs.Outcomes.{Outcome, refused, resulted, after, or_refuse}
+use Rattle.bytes_at.specs.Walks.{many, standing, Walk}
+use Rattle.refusal.specs.Outcomes.{Outcome, after, or_refuse}
 use Rattle.kind.specs.Kinds.{only_of}
 use Rattle.format.specs.Formats.{Format, walks}
 use Rattle.format.specs.Values.{One}
@@ -18,8 +16,6 @@ use Rattle.eit.specs.Fields as eits
 use Rattle.section.specs.Sections.{section_by}
 use Rattle.entry.specs.declared.Entry.{Entry}
 use Rattle.entry.specs.declared.Entry.TheVariants.{Table, Channel, Dimension, Event}
-use Rattle.entry.specs.declared.Spot.{Spot}
-use Rattle.entry.specs.declared.Spot.TheVariants.{Refused, At}
 use Rattle.entry.specs.Records.{kind_of_entry, start_of}
 
 -- ---- the entries that tables repeat
@@ -62,7 +58,3 @@ rest_in e s = standing (entry_walk e s (entry_count e s))
 -- value j of an RRT's dimension that begins at d: it begins where the walk past j values stands; 13 where there is none
 unfoldable pub value_spot : List ℕ → ℕ → ℕ → Outcome ℕ
 value_spot s d j = or_refuse 13 (ltb j (rrts.values_at s d)) (standing (many (walks value s (length s - 4)) j (rrts.first_value_at s d)))
-
-abbrev pub spot_outcome : Spot → Outcome ℕ
-spot_outcome (Refused k) = refused (number_of k)
-spot_outcome (At a) = resulted a

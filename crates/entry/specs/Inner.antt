@@ -1,8 +1,7 @@
 -- What functions over a section that was judged are lent, and hand on.
-use Rattle.std.specs.Prelude.{ℕ, ◌≤◌, List, length}
+use Rattle.std.specs.Prelude.{ℕ, ◌≤◌, List, length, Result, Ok, Err}
 use Rattle.entry.specs.declared.Entry.{Entry}
-use Rattle.entry.specs.declared.Spot.{Spot}
-use Rattle.entry.specs.declared.Spot.TheVariants.{Refused, At}
+use Rattle.refusal.specs.declared.Refusal.{Refusal}
 use Rattle.entry.specs.Entries.{first_entry}
 use Rattle.entry.specs.Records.{start_of}
 
@@ -12,6 +11,6 @@ pub record Begins (e : Entry) (s : List ℕ) : Type 0 where
   pub first : first_entry e s ≤ length s
 
 -- a spot stands within the bytes
-abbrev pub Inside : List ℕ → Spot → Type 0
-Inside s (Refused k) = record {}
-Inside s (At a) = a ≤ length s
+abbrev pub Inside : List ℕ → Result ℕ Refusal → Type 0
+Inside s (Err k) = record {}
+Inside s (Ok a) = a ≤ length s

@@ -2,8 +2,9 @@
 #![tactic(auto)]
 
 ghost use Rattle.std.specs.Prelude.{◌≡◌, ◌≤◌, length};
+ghost use Rattle.refusal.specs.Outcomes.{outcome};
 ghost use Rattle.bytes_at.specs.Walks.{standing};
-ghost use Rattle.entry.specs.Entries.{entry_count, first_entry, entry_walk, spot_in, spot_of, rest_in, value_spot, spot_outcome};
+ghost use Rattle.entry.specs.Entries.{entry_count, first_entry, entry_walk, spot_in, spot_of, rest_in, value_spot};
 ghost use Rattle.entry.specs.Records.{kind_of_entry};
 ghost use Rattle.entry.specs.Inner.{Begins, Inside};
 
@@ -11,7 +12,7 @@ use bytes_at::Walk;
 use kind::Kind;
 use refusal::Refusal;
 use section::inner::{body_end, body_start};
-use section::{Head, judge_kind};
+use section::judge_kind;
 
 #[derive(Clone, Copy)]
 pub enum Entry {
@@ -21,15 +22,8 @@ pub enum Entry {
     Event,
 }
 
-// Where an entry, or what follows all entries, begins, or a refusal.
-#[derive(Clone, Copy)]
-pub enum Spot {
-    Refused(Refusal),
-    At(usize),
-}
-
 // The kind of table that repeats the entry.
-fn table_of(entry: Entry) -> Kind
+pub fn table_of(entry: Entry) -> Kind
     ensures { result ≡ kind_of_entry entry }
 {
     match entry {
@@ -82,57 +76,48 @@ fn past(s: &[u8], entry: Entry, i: usize) -> Walk
 }
 
 // Where the walk past i entries stands.
-fn spot_past(s: &[u8], entry: Entry, i: usize) -> Spot
+fn spot_past(s: &[u8], entry: Entry, i: usize) -> Result<usize, Refusal>
     requires { Begins entry s.now }
-    ensures { (spot_outcome result ≡ standing (entry_walk entry s.now i)) × Inside s.now result }
+    ensures { (outcome result ≡ standing (entry_walk entry s.now i)) × Inside s.now result }
 {
-    match past(s, entry, i) {
-        Walk::To(a) => Spot::At(a),
-        Walk::Bad(_x) => Spot::Refused(Refusal::Body),
-    }
+    past(s, entry, i).map_err(|_| Refusal::Body)
 }
 
 // Where entry i of a section that was judged begins.
-pub fn spot_in(s: &[u8], entry: Entry, i: usize) -> Spot
+pub fn spot_in(s: &[u8], entry: Entry, i: usize) -> Result<usize, Refusal>
     requires { Begins entry s.now }
-    ensures { (spot_outcome result ≡ spot_in entry s.now i) × Inside s.now result }
+    ensures { (outcome result ≡ spot_in entry s.now i) × Inside s.now result }
 {
     if i < count_of(s, entry) {
         spot_past(s, entry, i)
     } else {
-        Spot::Refused(Refusal::NoSuchEntry)
+        Err(Refusal::NoSuchEntry)
     }
 }
 
 // Where what follows all entries of a section that was judged begins.
-pub fn rest_in(s: &[u8], entry: Entry) -> Spot
+pub fn rest_in(s: &[u8], entry: Entry) -> Result<usize, Refusal>
     requires { Begins entry s.now }
-    ensures { (spot_outcome result ≡ rest_in entry s.now) × Inside s.now result }
+    ensures { (outcome result ≡ rest_in entry s.now) × Inside s.now result }
 {
     spot_past(s, entry, count_of(s, entry))
 }
 
 // Where entry i of any section begins.
-pub fn spot_of(s: &[u8], entry: Entry, i: usize) -> Spot
-    ensures { (spot_outcome result ≡ spot_of entry s.now i) × Inside s.now result }
+pub fn spot_of(s: &[u8], entry: Entry, i: usize) -> Result<usize, Refusal>
+    ensures { (outcome result ≡ spot_of entry s.now i) × Inside s.now result }
 {
-    match judge_kind(s, table_of(entry)) {
-        Head::Refused(k) => Spot::Refused(k),
-        Head::Passes(_h) => spot_in(s, entry, i),
-    }
+    judge_kind(s, table_of(entry))?;
+    spot_in(s, entry, i)
 }
 
 // Where value j of the dimension that begins at d begins.
-pub fn value_spot(s: &[u8], d: usize, j: usize) -> Spot
+pub fn value_spot(s: &[u8], d: usize, j: usize) -> Result<usize, Refusal>
     requires { d ≤ length s.now }
-    ensures { (spot_outcome result ≡ value_spot s.now d j) × Inside s.now result }
+    ensures { (outcome result ≡ value_spot s.now d j) × Inside s.now result }
 {
-    if j < rrt::values(s, d) {
-        match rrt::past_values(s, body_end(s), j, rrt::first_value(s, d)) {
-            Walk::To(a) => Spot::At(a),
-            Walk::Bad(_x) => Spot::Refused(Refusal::Body),
-        }
-    } else {
-        Spot::Refused(Refusal::NoSuchEntry)
+    if j >= rrt::values(s, d) {
+        return Err(Refusal::NoSuchEntry);
     }
+    rrt::past_values(s, body_end(s), j, rrt::first_value(s, d)).map_err(|_| Refusal::Body)
 }

@@ -32,7 +32,7 @@ unfolding ett
 same_walk s end at = refl
 
 -- where an encoding lies that takes the whole body, its fields are answered, and its text lies where it is said to
-module _ (s : List ℕ) (at end : ℕ) (e : EttFields) (o : ett_format.Ok (record {}) e) (l : Lies (ett_format.enc e) s at)
+module _ (s : List ℕ) (at end : ℕ) (e : EttFields) (o : ett_format.Formed (record {}) e) (l : Lies (ett_format.enc e) s at)
     (whole : end ≡ at + length (ett_format.enc e)) where
   split : Lies (bytes_of 4 (number etm_head (e.etm, record {}))) s at × Lies (structure.enc e.text) s (behind etm_head at)
   split =
@@ -48,6 +48,6 @@ module _ (s : List ℕ) (at end : ℕ) (e : EttFields) (o : ett_format.Ok (recor
       let m : end - behind etm_head at ≡ length (structure.enc e.text) = omega arith in
       λ i. record { extension = extension; etm_id = v i; text = record { start = behind etm_head at; length = m i } }
 
-  pub as_text_lies : text.Ok (record {}) (as_text e.text) × Lies (text.enc (as_text e.text)) s (at + 4)
+  pub as_text_lies : text.Formed (record {}) (as_text e.text) × Lies (text.enc (as_text e.text)) s (at + 4)
   unfolding text as_text
   as_text_lies = (o.1, split.1)

@@ -6,7 +6,7 @@ use mathlib.Core.List.{List, []}
 use lib.Dec.{eqb}
 use borrow.Author.Tests.{eqb-true}
 use Rattle.logic.specs.Choices.{pick}
-use Rattle.bytes_at.specs.declared.Walk.TheVariants.{To}
+use Rattle.std.specs.Prelude.{Ok}
 use Rattle.bytes_at.specs.Walks.{then, ends}
 use Rattle.bytes_at.proofs.WalkLaws.{then_to, then_inv, ended, ends_at}
 use Rattle.format.specs.Formats.{walks, walks_all}
@@ -17,17 +17,17 @@ use Rattle.ett.specs.Format.{etm_head}
 use Rattle.ett.specs.Walked.{ett}
 
 -- a structure that fills its container is a text
-structure_text : (s : List ℕ) (end at : ℕ) → walks structure s end at ≡ To end → walks_all text s end at ≡ To end
+structure_text : (s : List ℕ) (end at : ℕ) → walks structure s end at ≡ Ok end → walks_all text s end at ≡ Ok end
 unfolding text
 structure_text s end at w = by (eqb at end) refl
   where
-    by : (t : Bool) → eqb at end ≡ t → pick t (To at) (then (walks structure s end at) (ends end)) ≡ To end
-    by true e = ap To (eqb-true at end e)
-    by false e = then_to _ (ends end) end (To end) w (ends_at end end refl)
+    by : (t : Bool) → eqb at end ≡ t → pick t (Ok at) (then (walks structure s end at) (ends end)) ≡ Ok end
+    by true e = ap Ok (eqb-true at end e)
+    by false e = then_to _ (ends end) end (Ok end) w (ends_at end end refl)
 
 -- the text stands behind ETM_id, within the body, and is sound
-pub body_text : (s : List ℕ) (end at e : ℕ) → walks_all ett s end at ≡ To e
-    → (behind etm_head at ≤ end) × (walks_all text s end (behind etm_head at) ≡ To end)
+pub body_text : (s : List ℕ) (end at e : ℕ) → walks_all ett s end at ≡ Ok e
+    → (behind etm_head at ≤ end) × (walks_all text s end (behind etm_head at) ≡ Ok end)
 unfolding ett
 body_text s end at e w =
     let p = then_inv _ _ e w in
@@ -35,5 +35,5 @@ body_text s end at e w =
     let q = then_inv _ _ e p.1.1 in
     let d = ended end q.0 e q.1.1 in (
       subst (λ x. x ≤ end) t.0 t.1,
-      subst (λ x. walks_all text s end x ≡ To end) t.0 (structure_text s end p.0 (q.1.0 ∙ ap To d.0)),
+      subst (λ x. walks_all text s end x ≡ Ok end) t.0 (structure_text s end p.0 (q.1.0 ∙ ap Ok d.0)),
     )

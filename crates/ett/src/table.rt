@@ -2,7 +2,7 @@
 ghost use Rattle.std.specs.Prelude.{◌≡◌, ◌<◌};
 ghost use Rattle.ett.specs.Fields.{fields_at};
 
-use bytes_at::{less, long};
+use bytes_at::long;
 use part::Part;
 
 #[derive(Clone, Copy)]
@@ -20,7 +20,7 @@ pub fn fields_at(s: &[u8], extension: usize, at: usize, end: usize) -> Table
     let start = at + 4;
     let text = Part {
         start,
-        length: less(end, start),
+        length: end.saturating_sub(start),
     };
     Table {
         extension,

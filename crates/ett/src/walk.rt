@@ -10,13 +10,7 @@ use strings::all_strings;
 pub fn body(s: &[u8], end: usize, at: usize) -> Walk
     ensures { result ≡ walks_all ett s.now end at }
 {
-    let w = skip(0, at, 4, end);
-    let Walk::To(b) = w else {
-        return w;
-    };
-    let v = all_strings(s, end, b);
-    let Walk::To(e) = v else {
-        return v;
-    };
+    let b = skip(0, at, 4, end)?;
+    let e = all_strings(s, end, b)?;
     at_end(e, end)
 }

@@ -4,7 +4,7 @@ ghost use Rattle.std.proofs.lemmas.List.Edits.{sets};
 ghost use Rattle.format.specs.Formats.{any_bytes};
 ghost use Rattle.ett.specs.Format.{ett_of};
 
-use bytes_put::{put_long, put_part};
+use bytes_put::{put_number, put_part};
 use part::Part;
 
 // ETM_id and the text, from `at` on.
@@ -12,7 +12,7 @@ pub fn put_body(etm: usize, text: &[u8], out: &mut [u8], at: usize)
     requires { (etm < 4294967296) × (at + 4 + length text.now ≤ length out.old) }
     ensures { out.new ≡ sets out.old at ((ett_of any_bytes).enc (record { etm = etm; text = text.now })) }
 {
-    put_long(out, at, etm);
+    put_number::<4>(out, at, etm);
     put_part(
         out,
         at + 4,

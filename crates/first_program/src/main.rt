@@ -3,7 +3,7 @@
 
 ghost use Rattle.std.specs.Prelude.{IfOk, ◌≤◌, length};
 
-use reading::eits::{EntryAnswer, entry};
+use reading::eits::entry;
 use std::io;
 use std::io::Read;
 
@@ -13,11 +13,10 @@ fn filled(input: &mut impl Read, room: &mut [u8]) -> io::Result<usize>
 {
     let mut n = 0;
     while n < room.len() {
-        let came = input.read(&mut room[n..])?;
-        if came == 0 {
-            return Ok(n);
+        match input.read(&mut room[n..])? {
+            0 => break,
+            came => n += came,
         }
-        n += came;
     }
     Ok(n)
 }
@@ -29,13 +28,11 @@ fn say(rt: &impl Print, words: &str, number: usize) -> io::Result<()> {
 fn main(rt: HostRuntime) -> io::Result<()> {
     let mut room = [0u8; 4096];
     let n = filled(&mut rt.stdin(), &mut room)?;
-    let mut i = 0;
-    while i < 256 {
+    for i in 0..256 {
         match entry(&room[..n], i) {
-            EntryAnswer::Is(event) => say(&rt, "start", event.start_time)?,
-            EntryAnswer::Refused(why) => return say(&rt, "refused", why.number() as usize),
+            Ok(event) => say(&rt, "start", event.start_time)?,
+            Err(why) => return say(&rt, "refused", usize::from(why.number())),
         }
-        i += 1;
     }
     Ok(())
 }

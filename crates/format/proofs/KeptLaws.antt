@@ -23,10 +23,10 @@ laws = record {
 }
 
 -- each format is lawful, and each that takes its whole container
-pub lawful : {C : Type 0} (f : Format C) (c : C) → Lawful (f.walk c) (f.Ok c) f.enc
+pub lawful : {C : Type 0} (f : Format C) (c : C) → Lawful (f.walk c) (f.Formed c) f.enc
 lawful f = f.law laws
 
-pub fills : {C : Type 0} (f : Filling C) (c : C) → Fills (f.walk c) (f.Ok c) f.enc
+pub fills : {C : Type 0} (f : Filling C) (c : C) → Fills (f.walk c) (f.Formed c) f.enc
 fills f = f.law laws
 
 -- the steps past fields and a last one of n bits have k bytes, where those have

@@ -4,7 +4,7 @@ use mathlib.Core.Path.{◌≡◌, refl, ap, ◌∙◌}
 use mathlib.Core.List.{List, [], ◌∷◌}
 use native.Mathlib.Omega.{arith}
 use lib.ListN.{length, length-append}
-use Rattle.bytes_at.specs.declared.Walk.TheVariants.{To}
+use Rattle.std.specs.Prelude.{Ok}
 use Rattle.bytes_at.specs.Walks.{many}
 use Rattle.bytes_at.proofs.WalkLaws.{then_to}
 use Rattle.format.specs.Lawful.{Lies}
@@ -17,7 +17,7 @@ use Rattle.format.specs.Listed.{nth_of}
 
 -- well-formed values lie in s one after the other, the first at a, in a container that ends at `end`
 pub record Stand (f : Format One) (s : List ℕ) (end a : ℕ) (xs : List f.Val) : Type 0 where
-  pub good : All (f.Ok (record {})) xs
+  pub good : All (f.Formed (record {})) xs
   pub lies : Lies (encs f.enc xs) s a
   pub inside : a + length (encs f.enc xs) ≤ end
 
@@ -38,23 +38,23 @@ module _ (f : Format One) (s : List ℕ) (end : ℕ) where
   pub first_inside : (a : ℕ) (x : f.Val) (xs : List f.Val) → Stand f s end a (x ∷ xs) → a + length (f.enc x) ≤ end
   first_inside a x xs g = let i = g.inside in omega (arith, length-append (f.enc x) (encs f.enc xs))
 
-  pub first_walks : (a : ℕ) (x : f.Val) (xs : List f.Val) → Stand f s end a (x ∷ xs) → walks f s end a ≡ To (a + length (f.enc x))
+  pub first_walks : (a : ℕ) (x : f.Val) (xs : List f.Val) → Stand f s end a (x ∷ xs) → walks f s end a ≡ Ok (a + length (f.enc x))
   first_walks a x xs g = (f.law laws (record {})).sound s end a x g.good.0 (first_lies a x xs g) (first_inside a x xs g)
 
   -- past them all
-  pub all_walk : (a : ℕ) (xs : List f.Val) → Stand f s end a xs → many (walks f s end) (length xs) a ≡ To (a + length (encs f.enc xs))
+  pub all_walk : (a : ℕ) (xs : List f.Val) → Stand f s end a xs → many (walks f s end) (length xs) a ≡ Ok (a + length (encs f.enc xs))
   unfolding many
-  all_walk a [] g = ap To (omega arith)
+  all_walk a [] g = ap Ok (omega arith)
   all_walk a (x ∷ xs) g =
       let j : a + length (f.enc x) + length (encs f.enc xs) ≡ a + length (encs f.enc (x ∷ xs)) =
       omega (arith, length-append (f.enc x) (encs f.enc xs)) in
-      then_to _ _ (a + length (f.enc x)) _ (first_walks a x xs g) (all_walk (a + length (f.enc x)) xs (rest_stand a x xs g) ∙ ap To j)
+      then_to _ _ (a + length (f.enc x)) _ (first_walks a x xs g) (all_walk (a + length (f.enc x)) xs (rest_stand a x xs g) ∙ ap Ok j)
 
   -- of number i, where a walk past i of them comes, what is told of the place is what is told of the value
   module _ {A : Type 0} (answer : ℕ → A) (told : ℕ → f.Val → A) (absent : A)
-      (same : (a : ℕ) (x : f.Val) → f.Ok (record {}) x → Lies (f.enc x) s a → a + length (f.enc x) ≤ end → answer a ≡ told a x) where
+      (same : (a : ℕ) (x : f.Val) → f.Formed (record {}) x → Lies (f.enc x) s a → a + length (f.enc x) ≤ end → answer a ≡ told a x) where
     pub nth_told : (a : ℕ) (xs : List f.Val) (i : ℕ) → Stand f s end a xs → i < length xs
-        → (b : ℕ) × ((many (walks f s end) i a ≡ To b) × (answer b ≡ nth_of f.enc told absent a xs i))
+        → (b : ℕ) × ((many (walks f s end) i a ≡ Ok b) × (answer b ≡ nth_of f.enc told absent a xs i))
     unfolding many nth_of
     nth_told a [] i g h = absurd (omega arith)
     nth_told a (x ∷ xs) zero g h = (a, (refl, same a x g.good.0 (first_lies a x xs g) (first_inside a x xs g)))
@@ -77,9 +77,9 @@ nth_made g enc told absent a (x ∷ xs) zero = refl
 nth_made g enc told absent a (x ∷ xs) (suc i) = nth_made g enc told absent (a + length (enc x)) xs i
 
 -- what is told of a value where it lies is what is said of it, wherever that is: so it is of number i
-module _ {X A : Type 0} (Ok : X → Type 0) (enc : X → List ℕ) (s : List ℕ) (told says : ℕ → X → A) (absent : A)
-    (same : (a b : ℕ) (x : X) → Ok x → Lies (enc x) s a → told a x ≡ says b x) where
-  pub nth_said : (a b : ℕ) (xs : List X) (i : ℕ) → All Ok xs → Lies (encs enc xs) s a
+module _ {X A : Type 0} (Formed : X → Type 0) (enc : X → List ℕ) (s : List ℕ) (told says : ℕ → X → A) (absent : A)
+    (same : (a b : ℕ) (x : X) → Formed x → Lies (enc x) s a → told a x ≡ says b x) where
+  pub nth_said : (a b : ℕ) (xs : List X) (i : ℕ) → All Formed xs → Lies (encs enc xs) s a
       → nth_of enc told absent a xs i ≡ nth_of enc says absent b xs i
   unfolding nth_of
   nth_said a b [] i g l = refl

@@ -1,6 +1,6 @@
 -- Laws of a format that stands several times: a count that must not be 0, and until the container's end.
 use Prim.Native.Nat.{ℕ, zero, suc, ◌+◌, ◌-◌, ◌≤◌, ◌<◌}
-use Rattle.std.specs.Prelude.{◌≡◌, refl, eqb, ltb}
+use Rattle.std.specs.Prelude.{◌≡◌, refl, eqb, ltb, Ok, Err}
 use Rattle.std.proofs.Common.{ne_eqb, lt-ltb, le-ltb}
 use Rattle.std.proofs.Math.Path.{ap}
 use Rattle.std.proofs.Math.Logic.{⊎_elim}
@@ -8,7 +8,6 @@ use mathlib.Core.List.{List, [], ◌∷◌}
 use native.Mathlib.Omega.{arith}
 use Rattle.std.proofs.Math.ListN.{length, length-append}
 use Rattle.std.proofs.lemmas.Bool.{eqb-false}
-use Rattle.bytes_at.specs.declared.Walk.TheVariants.{To, Bad}
 use Rattle.logic.specs.Choices.{pick}
 use Rattle.bytes_at.specs.Walks.{then, ends}
 use Rattle.bytes_at.proofs.WalkLaws.{never, then_to, then_inv, ends_at, ended}
@@ -18,10 +17,10 @@ use Rattle.format.specs.Laws.OfBytes.{pick_inv, after, lies_at, lies_join, lies_
 use Rattle.format.specs.Laws.OfRepeats.{SomeLaw, ListLaw, many_bytes}
 
 -- a format whose count must not be 0
-module _ {X : Type 0} {W : Walker} {Ok : X → Type 0} {enc : X → List ℕ} (back n : ℕ) (a : Lawful W Ok enc) where
-  counted : (s : List ℕ) (end at e : ℕ) → pick (eqb n 0) (Bad (at - back)) (W s end at) ≡ To e → (0 < n) × (W s end at ≡ To e)
+module _ {X : Type 0} {W : Walker} {Formed : X → Type 0} {enc : X → List ℕ} (back n : ℕ) (a : Lawful W Formed enc) where
+  counted : (s : List ℕ) (end at e : ℕ) → pick (eqb n 0) (Err (at - back)) (W s end at) ≡ Ok e → (0 < n) × (W s end at ≡ Ok e)
   counted s end at e w = ⊎_elim (λ t. never (at - back) e t.1) (λ t. (omega (arith, eqb-false n 0 t.0), t.1))
-      (pick_inv (eqb n 0) (Bad (at - back)) (W s end at) (To e) w)
+      (pick_inv (eqb n 0) (Err (at - back)) (W s end at) (Ok e) w)
 
   pub some_law : SomeLaw back n a
   some_law = record {
@@ -36,9 +35,9 @@ module _ {X : Type 0} {W : Walker} {Ok : X → Type 0} {enc : X → List ℕ} (b
   }
 
 -- ---- until the container's end
-module _ {X : Type 0} {P : Walker} {Ok : X → Type 0} {enc : X → List ℕ} (a : Lawful P Ok enc) (full : NotEmpty Ok enc) where
-  unto_sound : (f : ℕ) (s : List ℕ) (end at : ℕ) (xs : List X) → end ≤ at + f → All Ok xs → Lies (encs enc xs) s at
-      → end ≡ at + length (encs enc xs) → unto (P s) f end at ≡ To end
+module _ {X : Type 0} {P : Walker} {Formed : X → Type 0} {enc : X → List ℕ} (a : Lawful P Formed enc) (full : NotEmpty Formed enc) where
+  unto_sound : (f : ℕ) (s : List ℕ) (end at : ℕ) (xs : List X) → end ≤ at + f → All Formed xs → Lies (encs enc xs) s at
+      → end ≡ at + length (encs enc xs) → unto (P s) f end at ≡ Ok end
   unfolding unto
   unto_sound zero s end at [] d o l h = ends_at end at (omega arith)
   unto_sound zero s end at (x ∷ xs) d o l h = absurd (omega (arith, full x o.0, length-append (enc x) (encs enc xs)))
@@ -51,8 +50,8 @@ module _ {X : Type 0} {P : Walker} {Ok : X → Type 0} {enc : X → List ℕ} (a
       let v = unto_sound f s end (at + length (enc x)) xs (omega arith) o.1 i.1 (omega arith) in
       rw (lt-ltb at end (omega arith)) (then_to _ _ _ _ u v)
 
-  unto_complete : (f : ℕ) (s : List ℕ) (end at : ℕ) → at ≤ end → end ≤ length s → Bytes s → unto (P s) f end at ≡ To end
-      → (xs : List X) × (All Ok xs × (Lies (encs enc xs) s at × (end ≡ at + length (encs enc xs))))
+  unto_complete : (f : ℕ) (s : List ℕ) (end at : ℕ) → at ≤ end → end ≤ length s → Bytes s → unto (P s) f end at ≡ Ok end
+      → (xs : List X) × (All Formed xs × (Lies (encs enc xs) s at × (end ≡ at + length (encs enc xs))))
   unfolding unto
   unto_complete zero s end at h m z w = let t = ended end at end w in ([], (record {}, (refl, omega arith)))
   unto_complete (suc f) s end at h m z w = ⊎_elim
@@ -71,9 +70,9 @@ module _ {X : Type 0} {P : Walker} {Ok : X → Type 0} {enc : X → List ℕ} (a
         ),
       ))
       (λ t. let g = ended end at end t.1 in ([], (record {}, (refl, omega arith))))
-      (pick_inv (ltb at end) (then (P s end at) (unto (P s) f end)) (ends end at) (To end) w)
+      (pick_inv (ltb at end) (then (P s end at) (unto (P s) f end)) (ends end at) (Ok end) w)
 
-  unto_unique : (xs ys : List X) → All Ok xs → All Ok ys → encs enc xs ≡ encs enc ys → xs ≡ ys
+  unto_unique : (xs ys : List X) → All Formed xs → All Formed ys → encs enc xs ≡ encs enc ys → xs ≡ ys
   unto_unique [] [] o r e = refl
   unto_unique [] (y ∷ ys) o r e = absurd (omega (arith, ap length e, full y r.0, length-append (enc y) (encs enc ys)))
   unto_unique (x ∷ xs) [] o r e = absurd (omega (arith, ap length e, full x o.0, length-append (enc x) (encs enc xs)))
@@ -82,13 +81,13 @@ module _ {X : Type 0} {P : Walker} {Ok : X → Type 0} {enc : X → List ℕ} (a
       let g : xs ≡ ys = unto_unique xs ys o.1 r.1 (after enc x y _ _ f e) in
       cc
 
-  unto_whole : (f : ℕ) (s : List ℕ) (end at e : ℕ) → unto (P s) f end at ≡ To e → e ≡ end
+  unto_whole : (f : ℕ) (s : List ℕ) (end at e : ℕ) → unto (P s) f end at ≡ Ok e → e ≡ end
   unfolding unto
   unto_whole zero s end at e w = (ended end at e w).1
   unto_whole (suc f) s end at e w = ⊎_elim
       (λ t. let p = then_inv (P s end at) (unto (P s) f end) e t.1 in unto_whole f s end p.0 e p.1.1)
       (λ t. (ended end at e t.1).1)
-      (pick_inv (ltb at end) (then (P s end at) (unto (P s) f end)) (ends end at) (To e) w)
+      (pick_inv (ltb at end) (then (P s end at) (unto (P s) f end)) (ends end at) (Ok e) w)
 
   pub list_law : ListLaw a full
   list_law = record {

@@ -1,12 +1,10 @@
--- The language of formats. A format is its values (`Val`), which of them are well formed (`Ok`), and their bytes (`enc`). It carries a walk, which
+-- The language of formats. A format is its values (`Val`), which of them are well formed (`Formed`), and their bytes (`enc`). It carries a walk, which
 -- code takes, and the proof that the walk accepts exactly the bytes of well-formed values: `walk`, `law`, and `same` of a reader can be passed
 -- over. The proof is for the case that the laws of Laws/Statements.antt hold, as they do (`laws` of proofs/KeptLaws.antt). A walk reads a head from
 -- behind, as code does, and blames the field that fails: a field that is cut by its own offset, a length that promises too much and a count that may
 -- not be 0 by theirs.
-use Rattle.std.specs.Prelude.{ℕ, suc, ◌+◌, ◌-◌, ◌*◌, ◌<◌, ◌≡◌, ◌⊎◌, List, ◌++◌, Bool, length, eqb}
+use Rattle.std.specs.Prelude.{ℕ, suc, ◌+◌, ◌-◌, ◌*◌, ◌<◌, ◌≡◌, ◌⊎◌, List, ◌++◌, Bool, length, eqb, Option, Ok, Err}
 use Rattle.std.proofs.Common.{sym, ap, ◌∙◌, arith}
-use Rattle.std.proofs.Math.Option.{Option}
-use Rattle.bytes_at.specs.declared.Walk.TheVariants.{To, Bad}
 use Rattle.logic.specs.Choices.{pick}
 use Rattle.bytes_at.specs.Fields.{byte_at, word_at}
 use Rattle.bytes_at.specs.Walks.{skip_to, fields_to, then, many, ends}
@@ -24,18 +22,18 @@ use Rattle.format.specs.Laws.Statements.{Laws}
 -- a format that tells by itself where it ends; C is what a head before it tells of it (a count, a length, a tag)
 pub record Format (C : Type 0) : Type 1 where
   pub Val : Type 0
-  pub Ok : C → Val → Type 0
+  pub Formed : C → Val → Type 0
   pub enc : Val → List ℕ
   pub walk : C → Walker
-  pub law : Laws → (c : C) → Lawful (walk c) (Ok c) enc
+  pub law : Laws → (c : C) → Lawful (walk c) (Formed c) enc
 
 -- a format that takes its whole container
 pub record Filling (C : Type 0) : Type 1 where
   pub Val : Type 0
-  pub Ok : C → Val → Type 0
+  pub Formed : C → Val → Type 0
   pub enc : Val → List ℕ
   pub walk : C → Walker
-  pub law : Laws → (c : C) → Fills (walk c) (Ok c) enc
+  pub law : Laws → (c : C) → Fills (walk c) (Formed c) enc
 
 -- ---- readers: what a head tells of what follows it
 -- what is read of a head of k bytes by a walk that stands behind it: the same wherever the head stands
@@ -83,7 +81,7 @@ both q r = record {
 abbrev pub fields_by : (ns : List ℕ) (k : ℕ) → (Laws → total ns ≡ 8 * k) → Format One
 fields_by ns k whole = record {
   Val = List ℕ;
-  Ok = λ u x. (length x ≡ k) × Bytes x;
+  Formed = λ u x. (length x ≡ k) × Bytes x;
   enc = λ x. x;
   walk = λ u s end at. fields_to ns at end;
   law = λ w u. w.fields_law ns k (whole w);
@@ -97,7 +95,7 @@ fields ns k whole = fields_by ns k (λ w. whole)
 abbrev pub head_by : {C : Type 0} (ns : List ℕ) (k : ℕ) → (Laws → total ns ≡ 8 * k) → Reader k C → Format C → Format One
 head_by ns k whole r f = record {
   Val = List ℕ × f.Val;
-  Ok = λ u x. ((length x.0 ≡ k) × Bytes x.0) × f.Ok (r.read x.0 k) x.1;
+  Formed = λ u x. ((length x.0 ≡ k) × Bytes x.0) × f.Formed (r.read x.0 k) x.1;
   enc = λ x. x.0 ++ f.enc x.1;
   walk = λ u s end at. then (fields_to ns at end) (λ b. f.walk (r.read s b) s end b);
   law = λ w u. w.head_law ns k (whole w) r.read r.same (f.law w);
@@ -112,7 +110,7 @@ head ns k whole r f = head_by ns k (λ w. whole) r f
 abbrev pub raw : ℕ → Format ℕ
 raw back = record {
   Val = List ℕ;
-  Ok = λ n x. (length x ≡ n) × Bytes x;
+  Formed = λ n x. (length x ≡ n) × Bytes x;
   enc = λ x. x;
   walk = λ n s end at. skip_to back at n end;
   law = λ w. raw_law back;
@@ -122,7 +120,7 @@ raw back = record {
 abbrev pub filled : ℕ → Filling One → Format ℕ
 filled back f = record {
   Val = f.Val;
-  Ok = λ n x. (length (f.enc x) ≡ n) × f.Ok (record {}) x;
+  Formed = λ n x. (length (f.enc x) ≡ n) × f.Formed (record {}) x;
   enc = f.enc;
   walk = λ n s end at. then (skip_to back at n end) (λ e. f.walk (record {}) s e at);
   law = λ w n. filled_law back n (f.law w (record {}));
@@ -132,7 +130,7 @@ filled back f = record {
 abbrev pub filled_by : {C : Type 0} → ℕ → Filling C → Format (ℕ × C)
 filled_by back f = record {
   Val = f.Val;
-  Ok = λ n x. (length (f.enc x) ≡ n.0) × f.Ok n.1 x;
+  Formed = λ n x. (length (f.enc x) ≡ n.0) × f.Formed n.1 x;
   enc = f.enc;
   walk = λ n s end at. then (skip_to back at n.0 end) (λ e. f.walk n.1 s e at);
   law = λ w n. filled_law back n.0 (f.law w n.1);
@@ -143,7 +141,7 @@ filled_by back f = record {
 abbrev pub seq : Format One → Format One → Format One
 seq f g = record {
   Val = f.Val × g.Val;
-  Ok = λ u x. f.Ok u x.0 × g.Ok u x.1;
+  Formed = λ u x. f.Formed u x.0 × g.Formed u x.1;
   enc = λ x. f.enc x.0 ++ g.enc x.1;
   walk = λ u s end at. then (f.walk u s end at) (g.walk u s end);
   law = λ w u. seq_law (f.law w u) (g.law w u);
@@ -153,7 +151,7 @@ seq f g = record {
 abbrev pub times : Format One → Format ℕ
 times f = record {
   Val = List f.Val;
-  Ok = λ n xs. (length xs ≡ n) × All (f.Ok (record {})) xs;
+  Formed = λ n xs. (length xs ≡ n) × All (f.Formed (record {})) xs;
   enc = encs f.enc;
   walk = λ n s end at. many (f.walk (record {}) s end) n at;
   law = λ w. times_law (f.law w (record {}));
@@ -163,9 +161,9 @@ times f = record {
 abbrev pub one_or_more : ℕ → Format One → Format ℕ
 one_or_more back f = record {
   Val = List f.Val;
-  Ok = λ n xs. (0 < n) × ((length xs ≡ n) × All (f.Ok (record {})) xs);
+  Formed = λ n xs. (0 < n) × ((length xs ≡ n) × All (f.Formed (record {})) xs);
   enc = encs f.enc;
-  walk = λ n s end at. pick (eqb n 0) (Bad (at - back)) (many (f.walk (record {}) s end) n at);
+  walk = λ n s end at. pick (eqb n 0) (Err (at - back)) (many (f.walk (record {}) s end) n at);
   law = λ w n. w.some_law back n (times_law (f.law w (record {})) n);
 }
 
@@ -174,7 +172,7 @@ one_or_more back f = record {
 abbrev pub exact : Format One → Filling One
 exact f = record {
   Val = f.Val;
-  Ok = f.Ok;
+  Formed = f.Formed;
   enc = f.enc;
   walk = λ u s end at. then (f.walk u s end at) (ends end);
   law = λ w u. w.exact_law (f.law w u);
@@ -184,7 +182,7 @@ exact f = record {
 abbrev pub before : Format One → Filling One → Filling One
 before f g = record {
   Val = f.Val × g.Val;
-  Ok = λ u x. f.Ok u x.0 × g.Ok u x.1;
+  Formed = λ u x. f.Formed u x.0 × g.Formed u x.1;
   enc = λ x. f.enc x.0 ++ g.enc x.1;
   walk = λ u s end at. then (f.walk u s end at) (g.walk u s end);
   law = λ w u. before_law (f.law w u) (g.law w u);
@@ -192,13 +190,13 @@ before f g = record {
 
 -- whatever bytes there are
 abbrev pub any_bytes : Filling One
-any_bytes = record { Val = List ℕ; Ok = λ u x. Bytes x; enc = λ x. x; walk = λ u s end at. To end; law = λ w u. any_law }
+any_bytes = record { Val = List ℕ; Formed = λ u x. Bytes x; enc = λ x. x; walk = λ u s end at. Ok end; law = λ w u. any_law }
 
 -- one or the other, by a test on what is told
 abbrev pub choice : {C : Type 0} → (C → Bool) → Filling One → Filling One → Filling C
 choice t f g = record {
   Val = f.Val ⊎ g.Val;
-  Ok = λ c. OkSum (t c) (f.Ok (record {})) (g.Ok (record {}));
+  Formed = λ c. OkSum (t c) (f.Formed (record {})) (g.Formed (record {}));
   enc = enc_sum f.enc g.enc;
   walk = λ c s end at. pick (t c) (f.walk (record {}) s end at) (g.walk (record {}) s end at);
   law = λ w c. choice_law (t c) (f.law w (record {})) (g.law w (record {}));
@@ -206,15 +204,15 @@ choice t f g = record {
 
 -- no value of it is empty
 abbrev pub Full : Format One → Type 0
-Full f = (x : f.Val) → f.Ok (record {}) x → 0 < length (f.enc x)
+Full f = (x : f.Val) → f.Formed (record {}) x → 0 < length (f.enc x)
 
 -- nothing, or a format and nothing after it
 abbrev pub opt : (f : Format One) → Full f → Filling One
 opt f full = record {
   Val = Option f.Val;
-  Ok = λ u. OkOpt (f.Ok u);
+  Formed = λ u. OkOpt (f.Formed u);
   enc = enc_opt f.enc;
-  walk = λ u s end at. pick (eqb at end) (To at) ((exact f).walk u s end at);
+  walk = λ u s end at. pick (eqb at end) (Ok at) ((exact f).walk u s end at);
   law = λ w u. w.opt_law ((exact f).law w u) full;
 }
 
@@ -222,7 +220,7 @@ opt f full = record {
 abbrev pub list : (f : Format One) → Full f → Filling One
 list f full = record {
   Val = List f.Val;
-  Ok = λ u. All (f.Ok u);
+  Formed = λ u. All (f.Formed u);
   enc = encs f.enc;
   walk = λ u s end at. unto (f.walk u s) end end at;
   law = λ w u. w.list_law (f.law w u) full;
@@ -230,17 +228,17 @@ list f full = record {
 
 -- ---- the same bytes and walk under other values
 -- how new values stand for the old ones of a format: each well-formed x is that of exactly one y
-pub record Recast (X : Type 0) (Ok : X → Type 0) (Y : Type 0) (OkY : Y → Type 0) : Type 0 where
+pub record Recast (X : Type 0) (Formed : X → Type 0) (Y : Type 0) (OkY : Y → Type 0) : Type 0 where
   pub to : Y → X
-  pub good : (y : Y) → OkY y → Ok (to y)
-  pub onto : (x : X) → Ok x → (y : Y) × (OkY y × (to y ≡ x))
+  pub good : (y : Y) → OkY y → Formed (to y)
+  pub onto : (x : X) → Formed x → (y : Y) × (OkY y × (to y ≡ x))
   pub inj : (y z : Y) → OkY y → OkY z → to y ≡ to z → y ≡ z
 
 -- the same bytes and walk with other values
-abbrev pub via : (f : Format One) {Y : Type 0} {OkY : Y → Type 0} → Recast f.Val (f.Ok (record {})) Y OkY → Format One
+abbrev pub via : (f : Format One) {Y : Type 0} {OkY : Y → Type 0} → Recast f.Val (f.Formed (record {})) Y OkY → Format One
 via f {Y} {OkY} r = record {
   Val = Y;
-  Ok = λ u. OkY;
+  Formed = λ u. OkY;
   enc = λ y. f.enc (r.to y);
   walk = f.walk;
   law = λ w u. via_law (f.law w u) r.to r.good r.onto r.inj;
@@ -249,7 +247,7 @@ via f {Y} {OkY} r = record {
 -- the same bytes and walk, and as values those of a record
 abbrev pub under : (f : Format One) {Y : Type 0} (to : Y → f.Val) (from : f.Val → Y) → ((x : f.Val) → to (from x) ≡ x)
     → ((y : Y) → from (to y) ≡ y) → Format One
-under f {Y} to from a b = via f {Y = Y} {OkY = λ y. f.Ok (record {}) (to y)} (record {
+under f {Y} to from a b = via f {Y = Y} {OkY = λ y. f.Formed (record {}) (to y)} (record {
   to = to;
   good = λ y o. o;
   onto = λ x o. (from x, (rw (a x) o, a x));
@@ -261,7 +259,7 @@ abbrev pub under_all : (f : Filling One) {Y : Type 0} (to : Y → f.Val) (from :
     → ((y : Y) → from (to y) ≡ y) → Filling One
 under_all f {Y} to from a b = record {
   Val = Y;
-  Ok = λ u y. f.Ok u (to y);
+  Formed = λ u y. f.Formed u (to y);
   enc = λ y. f.enc (to y);
   walk = f.walk;
   law = λ w u. under_law (f.law w u) to from a b;

@@ -18,4 +18,4 @@ Tells fs n k r c = (h : List ℕ) → length h ≡ k → Bytes h → r.read h k 
 
 -- the fields fit, the last number fits its n bits, and what follows is well formed for what the head tells of it
 abbrev pub OkTold : {C : Type 0} (fs : List Field) (n : ℕ) (c : Vals fs → ℕ → C) (f : Format C) → (f.Val → ℕ) → Vals fs × f.Val → Type 0
-OkTold fs n c f tally y = Fit fs y.0 × ((tally y.1 < 2 ^ n) × f.Ok (c y.0 (tally y.1)) y.1)
+OkTold fs n c f tally y = Fit fs y.0 × ((tally y.1 < 2 ^ n) × f.Formed (c y.0 (tally y.1)) y.1)

@@ -1,10 +1,9 @@
 -- The language in which every table is defined once. A meaning says which values of a type are well formed, and what bytes a value has; each line of `Language`
--- gives a word its meaning: a value of a format is one of `.Val`, it is well formed where `.Ok` holds of it, and its bytes are `.enc`. This is all that is to
+-- gives a word its meaning: a value of a format is one of `.Val`, it is well formed where `.Formed` holds of it, and its bytes are `.enc`. This is all that is to
 -- be known of a word. How code walks through the bytes, with the proof that it accepts exactly those of well-formed values, stands in Formats, Named, Heads,
 -- Told and Lawful. The arguments w, p and q of words are proofs, and can be passed over. A `Format C` tells by itself where it ends, a
 -- `Filling C` takes its whole container; C is what a head before it tells of it, and `One` where nothing is told. The page is proved (law `language`).
-use Rattle.std.specs.Prelude.{ℕ, suc, ◌+◌, ◌*◌, ◌^◌, ◌<◌, ◌≡◌, ◌↔◌, List, [], ◌∷◌, ◌++◌, Bool, length}
-use Rattle.bytes_at.specs.declared.Walk.TheVariants.{To}
+use Rattle.std.specs.Prelude.{ℕ, suc, ◌+◌, ◌*◌, ◌^◌, ◌<◌, ◌≡◌, ◌↔◌, List, [], ◌∷◌, ◌++◌, Bool, length, Ok}
 use Rattle.format.specs.Repeats.{Bytes, All, encs, OkOpt, enc_opt, OkSum, enc_sum}
 use Rattle.format.specs.Values.{One, Field, bits, reserved, width, Vals, Fit, number, bytes_of, head_bytes}
 use Rattle.format.specs.Formats.{Format, Filling, Full, seq, exact, before, any_bytes, opt, list, choice, under, under_all, walks_all}
@@ -24,10 +23,10 @@ abbrev pub ◌≈◌ : {X : Type 0} → Meaning X → Meaning X → Type 0
 
 -- the meaning of a format; of one that fills its container, where c is told before; of one that fills it, where nothing is
 abbrev pub meaning : (f : Format One) → Meaning f.Val
-meaning f = record { ok = f.Ok (record {}); bytes = f.enc }
+meaning f = record { ok = f.Formed (record {}); bytes = f.enc }
 
 abbrev pub filling_for : {C : Type 0} (f : Filling C) → C → Meaning f.Val
-filling_for f c = record { ok = f.Ok c; bytes = f.enc }
+filling_for f c = record { ok = f.Formed c; bytes = f.enc }
 
 abbrev pub filling : (f : Filling One) → Meaning f.Val
 filling f = filling_for f (record {})
@@ -99,4 +98,4 @@ pub record Language : Type 1 where
       → filling (under_all f to from p q) ≈ record { ok = λ y. (filling f).ok (to y); bytes = λ y. f.enc (to y) }
   -- a walk through bytes that a format should fill stands exactly where they are those of a well-formed value
   pub of_walked : (f : Filling One) (s : List ℕ) → Bytes s
-      → (walks_all f s (length s) 0 ≡ To (length s)) ↔ ((x : f.Val) × ((filling f).ok x × (s ≡ f.enc x)))
+      → (walks_all f s (length s) 0 ≡ Ok (length s)) ↔ ((x : f.Val) × ((filling f).ok x × (s ≡ f.enc x)))

@@ -14,8 +14,8 @@ use Rattle.format.specs.Laws.OfTold.{steps_whole_by, head_below, told_good, told
 
 -- ---- the head and what it tells of
 module _ {C : Type 0} (fs : List Field) (n k : ℕ) (whole : width fs + n ≡ 8 * k) (r : Reader k C) (c : Vals fs → ℕ → C)
-    (tells : Tells fs n k r c) (f : Format C) (tally : f.Val → ℕ) (is : (v : Vals fs) (m : ℕ) (x : f.Val) → f.Ok (c v m) x → tally x ≡ m) where
-  abbrev pub of_told : Recast (List ℕ × f.Val) (λ x. ((length x.0 ≡ k) × Bytes x.0) × f.Ok (r.read x.0 k) x.1) (Vals fs × f.Val) (OkTold fs n c f tally)
+    (tells : Tells fs n k r c) (f : Format C) (tally : f.Val → ℕ) (is : (v : Vals fs) (m : ℕ) (x : f.Val) → f.Formed (c v m) x → tally x ≡ m) where
+  abbrev pub of_told : Recast (List ℕ × f.Val) (λ x. ((length x.0 ≡ k) × Bytes x.0) × f.Formed (r.read x.0 k) x.1) (Vals fs × f.Val) (OkTold fs n c f tally)
   of_told = record {
     to = λ y. (head_bytes fs n k y.0 (tally y.1), y.1);
     good = λ y o. (

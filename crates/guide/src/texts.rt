@@ -8,7 +8,7 @@ ghost use Rattle.telling.specs.Texts.{asked_count, asked_heading, asked_amount, 
 use refusal::Refusal;
 use section_text::{count_strings, string_heading, string_text, string_units};
 use telling::fields::{tell_amount, tell_count, tell_heading};
-use telling::texts::{Sought, which_of};
+use telling::texts::which_of;
 use telling::told::{number_of, wide};
 
 // The number of strings.
@@ -16,8 +16,8 @@ pub fn guide_strings(s: &[u8], which: &[u32; 4], count: &mut [u32; 1]) -> u32
     ensures { Told one_number (asked_count s.now which.now) count.old result count.new }
 {
     match which_of(which) {
-        Sought::Nothing => number_of(Refusal::NoSuchEntry),
-        Sought::Is(w) => tell_count(count_strings(s, w), count),
+        None => number_of(Refusal::NoSuchEntry),
+        Some(w) => tell_count(count_strings(s, w), count),
     }
 }
 
@@ -26,8 +26,8 @@ pub fn guide_heading(s: &[u8], which: &[u32; 4], told: &mut [u32; 2]) -> u32
     ensures { Told heading_numbers (asked_heading s.now which.now) told.old result told.new }
 {
     match which_of(which) {
-        Sought::Nothing => number_of(Refusal::NoSuchEntry),
-        Sought::Is(w) => tell_heading(string_heading(s, w, wide(which[3])), told),
+        None => number_of(Refusal::NoSuchEntry),
+        Some(w) => tell_heading(string_heading(s, w, wide(which[3])), told),
     }
 }
 
@@ -36,8 +36,8 @@ pub fn guide_units(s: &[u8], which: &[u32; 4], told: &mut [u32; 2]) -> u32
     ensures { Told amount_numbers (asked_amount s.now which.now) told.old result told.new }
 {
     match which_of(which) {
-        Sought::Nothing => number_of(Refusal::NoSuchEntry),
-        Sought::Is(w) => tell_amount(string_units(s, w, wide(which[3])), told),
+        None => number_of(Refusal::NoSuchEntry),
+        Some(w) => tell_amount(string_units(s, w, wide(which[3])), told),
     }
 }
 
@@ -47,7 +47,7 @@ pub fn guide_text(s: &[u8], which: &[u32; 4], units: &mut [u16], told: &mut [u32
     ensures writes { units.new ≡ output_after units.old (fitting_units s.now which.now (length units.old)) }
 {
     match which_of(which) {
-        Sought::Nothing => number_of(Refusal::NoSuchEntry),
-        Sought::Is(w) => tell_amount(string_text(s, w, wide(which[3]), units), told),
+        None => number_of(Refusal::NoSuchEntry),
+        Some(w) => tell_amount(string_text(s, w, wide(which[3]), units), told),
     }
 }

@@ -4,8 +4,9 @@ ghost use Rattle.refusal.specs.Outputs.{counted, output_after};
 ghost use Rattle.telling.specs.Told.{Told, one_number};
 ghost use Rattle.telling.specs.Writers.{eit_from, ett_from};
 
+use telling::fields::tell_count;
 use telling::told::wide;
-use telling::writers::{given_in, tell_length};
+use telling::writers::given_in;
 use writing::{eits, etts};
 
 // An EIT: a row of eight numbers for each event, with places in `bytes`.
@@ -19,7 +20,7 @@ pub fn guide_write_eit(
     ensures answers { Told one_number (counted (eit_from given.now rows.now bytes.now (length out.old))) told.old result told.new }
     ensures writes { out.new ≡ output_after out.old (eit_from given.now rows.now bytes.now (length out.old)) }
 {
-    tell_length(
+    tell_count(
         eits::write(given_in(given), wide(given[5]), rows, bytes, out),
         told,
     )
@@ -30,7 +31,7 @@ pub fn guide_write_ett(given: &[u32; 6], text: &[u8], out: &mut [u8], told: &mut
     ensures answers { Told one_number (counted (ett_from given.now text.now (length out.old))) told.old result told.new }
     ensures writes { out.new ≡ output_after out.old (ett_from given.now text.now (length out.old)) }
 {
-    tell_length(
+    tell_count(
         etts::write(given_in(given), wide(given[5]), text, out),
         told,
     )

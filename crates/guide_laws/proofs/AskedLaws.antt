@@ -1,9 +1,9 @@
 -- The numbers of ratings, descriptors and advisories' texts have 32 bits, in a section and in a list by itself.
+use Rattle.std.specs.Prelude.{Option, None, Some}
 use Prim.Native.Nat.{ℕ, zero, suc, ◌+◌, ◌*◌, ◌%◌, ◌≤◌}
 use mathlib.Core.Path.{◌≡◌, refl}
 use mathlib.Core.Bool.{Bool, true, false}
 use mathlib.Core.List.{List, map}
-use mathlib.Core.Option.{Option, none, some}
 use native.Mathlib.Omega.{arith}
 use borrow.Author.Tests.{ltb-false}
 use lib.Dec.{eqb, ltb}
@@ -36,12 +36,12 @@ module _ {A : Type 0} (P : A → Type 0) (s : List ℕ) (size : ℕ → ℕ) (en
 
 -- an answer that is there
 abbrev pub OptionSmall : {A : Type 0} → (A → List ℕ) → Option A → Type 0
-OptionSmall f none = One
-OptionSmall f (some a) = Small (f a)
+OptionSmall f None = One
+OptionSmall f (Some a) = Small (f a)
 
 pub or_none_whole : {A : Type 0} (f : A → List ℕ) (o : Option A) (a : A) → OptionSmall f o → or_none o ≡ resulted a → map noted (f a) ≡ f a
-or_none_whole f none a h e = not_both 13 a e
-or_none_whole f (some b) a h e = told_whole f b a e h
+or_none_whole f None a h e = not_both 13 a e
+or_none_whole f (Some b) a h e = told_whole f b a e h
 
 module _ (s : List ℕ) (bytes : Bytes s) (end : ℕ) (low : end ≤ 4294960000) where
   pub rating_small : (region dimension from : ℕ) → Small (rating_numbers (rating_in s region dimension end from))
@@ -66,7 +66,7 @@ module _ (s : List ℕ) (bytes : Bytes s) (end : ℕ) (low : end ≤ 4294960000)
   unfolding text_in descriptor_size region_size rated_size
   text_small_in region from =
       let P = OptionSmall text_numbers in
-      first_is P s (descriptor_size s) end 135 _ none (record {}) (λ a h.
-      first_is P s (region_size s) (a + descriptor_size s a) region _ none (record {}) (λ p g.
+      first_is P s (descriptor_size s) end 135 _ None (record {}) (λ a h.
+      first_is P s (region_size s) (a + descriptor_size s a) region _ None (record {}) (λ p g.
       (omega (arith, bytes (p + 1), bytes (p + (2 + 2 * byte_at s (p + 1)))), (omega (arith, bytes (p + (2 + 2 * byte_at s (p + 1)))), record {})))
       (byte_at s (a + 2) % 64) (a + 3)) end from

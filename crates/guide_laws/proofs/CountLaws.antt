@@ -23,8 +23,7 @@ use Rattle.entry.specs.declared.Entry.{Entry}
 use Rattle.entry.specs.declared.Entry.TheVariants.{Table, Channel, Dimension, Event}
 use Rattle.entry.specs.Entries.{entry_count, first_entry}
 use Rattle.entry.specs.Records.{kind_of_entry}
-use Rattle.rows.specs.declared.Row.{Row}
-use Rattle.rows.specs.Rows.{entry_for, row_width, room_for_rows, rows_in, rows_of}
+use Rattle.rows.specs.Rows.{row_width, room_for_rows, rows_in, rows_of}
 use Rattle.rows.specs.Values.{value_count, value_rows_in, value_rows_of}
 use Rattle.titles.specs.Titles as titles
 use Rattle.titles.proofs.TitlesLaws.{units_few, judged_events}
@@ -46,11 +45,11 @@ module _ (s : List ℕ) (bytes : Bytes s) where
   unfolding room_for_rows
   room_whole w n room h a e = told_whole one_number n a (passed_le 12 (w * n) room _ a e).1 (h, record {})
 
-  rows_whole : (r : Row) (room : ℕ) → Whole one_number (rows_of r s room)
+  rows_whole : (r : Entry) (room : ℕ) → Whole one_number (rows_of r s room)
   unfolding rows_of rows_in
   rows_whole r room a e =
-      let p = after_is (section_by (only_of (kind_of_entry (entry_for r))) s) _ a e in
-      room_whole (row_width r) (entry_count (entry_for r) s) room (omega (arith, count_small (entry_for r))) a p.1.1
+      let p = after_is (section_by (only_of (kind_of_entry r)) s) _ a e in
+      room_whole (row_width r) (entry_count r s) room (omega (arith, count_small r)) a p.1.1
 
   -- a dimension has at most fifteen values
   values_small : (n d : ℕ) → value_count s n d ≤ 15 * n

@@ -1,8 +1,8 @@
 -- The numbers that are told of a text have 32 bits: of a field by itself, and of a text of a section.
+use Rattle.std.specs.Prelude.{Option, None, Some}
 use Prim.Native.Nat.{ℕ, zero, suc, ◌*◌, ◌-◌, ◌≤◌, ◌<◌}
 use mathlib.Core.Path.{◌≡◌, refl}
 use mathlib.Core.List.{List, [], ◌∷◌}
-use mathlib.Core.Option.{Option, none, some}
 use native.Mathlib.Omega.{arith}
 use lib.Dec.{eqb}
 use lib.ListN.{length, take, drop, length-take, length-drop}
@@ -111,8 +111,8 @@ module _ (f : List ℕ) (bytes : Bytes f) (low : Short f) where
 -- ---- of a text of a section
 of_text_lem : {A : Type 0} (f : A → List ℕ) (o : Option Which) (g : Which → Outcome A) → ((w : Which) → Whole f (g w)) → Whole f (of_text o g)
 unfolding of_text
-of_text_lem f none g h a e = not_both 13 a e
-of_text_lem f (some w) g h a e = h w a e
+of_text_lem f None g h a e = not_both 13 a e
+of_text_lem f (Some w) g h a e = h w a e
 
 module _ (s : List ℕ) (bytes : Bytes s) where
   part_bytes : (p : Part) → Bytes (bytes_in s p)

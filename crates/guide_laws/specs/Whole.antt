@@ -8,7 +8,7 @@ use Rattle.format.specs.Repeats.{Bytes}
 use Rattle.text.specs.Answers.{amount_of}
 use Rattle.text.specs.Texts.{fitting, field_count, field_units, field_replaced, field_heading}
 use Rattle.section.specs.Sections.{section_by}
-use Rattle.rows.specs.declared.Row.{Row}
+use Rattle.entry.specs.declared.Entry.{Entry}
 use Rattle.rows.specs.Rows.{rows_of}
 use Rattle.rows.specs.Values.{value_rows_of}
 use Rattle.titles.specs.Titles.{titles_of}
@@ -59,7 +59,7 @@ pub record TextWhole (s q : List ℕ) : Type 0 where
 
 -- how many rows there are, and how many events and units of titles
 pub record CountsWhole (s : List ℕ) : Type 0 where
-  pub rows : (r : Row) (room : ℕ) → Whole one_number (rows_of r s room)
+  pub rows : (r : Entry) (room : ℕ) → Whole one_number (rows_of r s room)
   pub values : (room : ℕ) → Whole one_number (value_rows_of s room)
   pub titles : (rows units : ℕ) → Whole counts_numbers (titles_of s rows units)
 

@@ -1,10 +1,8 @@
 -- SCOPE 1.5: the table of kinds, and SCOPE 6, number 2: which kind a table_id names.
-use Rattle.std.specs.Prelude.{ℕ, true}
+use Rattle.std.specs.Prelude.{ℕ, true, Option, Some, None}
 use Rattle.kind.specs.declared.Kind.{Kind}
 use Rattle.kind.specs.declared.Kind.TheVariants.{Mgt, Tvct, Rrt, Eit, Ett}
 use Rattle.kind.specs.declared.Limits.{Limits}
-use Rattle.kind.specs.declared.Found.{Found}
-use Rattle.kind.specs.declared.Found.TheVariants.{Is, Nothing}
 use Rattle.logic.specs.Choices.{if_eq}
 use Rattle.refusal.specs.declared.Refusal.TheVariants.{ProtocolVersion}
 
@@ -26,14 +24,14 @@ limits_of Eit = record { smallest = 11; largest = 4093; last = 255; zero_byte = 
 limits_of Ett = record { smallest = 15; largest = 4093; last = 0; zero_byte = 8; zero_refusal = ProtocolVersion; body = 9; watched = true }
 
 -- test 2 of a call that reads one kind
-unfoldable pub only_of : Kind → ℕ → Found
-only_of k id = if_eq id (table_id_of k) (Is k) Nothing
+unfoldable pub only_of : Kind → ℕ → Option Kind
+only_of k id = if_eq id (table_id_of k) (Some k) None
 
 -- test 2 of a call that reads all five
-unfoldable pub kind_of : ℕ → Found
+unfoldable pub kind_of : ℕ → Option Kind
 kind_of id =
-    if_eq id (table_id_of Mgt) (Is Mgt)
-    (if_eq id (table_id_of Tvct) (Is Tvct)
-    (if_eq id (table_id_of Rrt) (Is Rrt)
-    (if_eq id (table_id_of Eit) (Is Eit)
-    (if_eq id (table_id_of Ett) (Is Ett) Nothing))))
+    if_eq id (table_id_of Mgt) (Some Mgt)
+    (if_eq id (table_id_of Tvct) (Some Tvct)
+    (if_eq id (table_id_of Rrt) (Some Rrt)
+    (if_eq id (table_id_of Eit) (Some Eit)
+    (if_eq id (table_id_of Ett) (Some Ett) None))))

@@ -29,13 +29,6 @@ pub struct Limits {
     pub watched: bool,
 }
 
-// The kind that has a table_id, where a call reads it.
-#[derive(Clone, Copy)]
-pub enum Found {
-    Is(Kind),
-    Nothing,
-}
-
 impl Kind {
     pub const MGT: usize = 0xC7;
 
@@ -122,27 +115,27 @@ impl Kind {
     }
 
     // For a call that reads every kind.
-    pub fn of(id: usize) -> Found
+    pub fn of(id: usize) -> Option<Kind>
         ensures { result ≡ kind_of id }
     {
         match id {
-            Kind::MGT => Found::Is(Kind::Mgt),
-            Kind::TVCT => Found::Is(Kind::Tvct),
-            Kind::RRT => Found::Is(Kind::Rrt),
-            Kind::EIT => Found::Is(Kind::Eit),
-            Kind::ETT => Found::Is(Kind::Ett),
-            _ => Found::Nothing,
+            Kind::MGT => Some(Kind::Mgt),
+            Kind::TVCT => Some(Kind::Tvct),
+            Kind::RRT => Some(Kind::Rrt),
+            Kind::EIT => Some(Kind::Eit),
+            Kind::ETT => Some(Kind::Ett),
+            _ => None,
         }
     }
 
     // For a call that reads this kind alone.
-    pub fn only(self, id: usize) -> Found
+    pub fn only(self, id: usize) -> Option<Kind>
         ensures { result ≡ only_of self id }
     {
         if id == self.table_id() {
-            Found::Is(self)
+            Some(self)
         } else {
-            Found::Nothing
+            None
         }
     }
 }

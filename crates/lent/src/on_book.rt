@@ -24,9 +24,7 @@ pub fn open(
     }
     let before = shelf_in(b, places);
     let r = shelf::open(before, area, asked_in(question), amount_in(question));
-    let after = r.shelf;
-    let answer = r.answer;
-    settle(places, before, after, change_number(answer))
+    settle(places, before, r.shelf, change_number(r.answer))
 }
 
 pub fn close(
@@ -44,9 +42,7 @@ pub fn close(
     }
     let before = shelf_in(b, places);
     let r = shelf::close(before, area, asked_in(question));
-    let after = r.shelf;
-    let answer = r.answer;
-    settle(places, before, after, change_number(answer))
+    settle(places, before, r.shelf, change_number(r.answer))
 }
 
 pub fn status(
@@ -64,10 +60,8 @@ pub fn status(
     }
     let before = shelf_in(b, places);
     let r = shelf::status(before, area, asked_in(question));
-    let after = r.shelf;
-    let answer = r.answer;
-    let number = tell_status(reply, answer);
-    settle(places, before, after, number)
+    let number = tell_status(reply, r.answer);
+    settle(places, before, r.shelf, number)
 }
 
 pub fn fetch(
@@ -85,10 +79,8 @@ pub fn fetch(
     }
     let before = shelf_in(b, places);
     let r = shelf::fetch(before, area, asked_in(question), amount_in(question));
-    let after = r.shelf;
-    let answer = r.answer;
-    let number = tell_fetched(reply, answer);
-    settle(places, before, after, number)
+    let number = tell_fetched(reply, r.answer);
+    settle(places, before, r.shelf, number)
 }
 
 pub fn deliver(
@@ -106,7 +98,5 @@ pub fn deliver(
     }
     let before = shelf_in(b, places);
     let r = shelf::deliver(before, area, number_at(question, 0), section);
-    let after = r.shelf;
-    let answer = r.answer;
-    settle(places, before, after, change_number(answer))
+    settle(places, before, r.shelf, change_number(r.answer))
 }

@@ -6,18 +6,15 @@ use mathlib.Core.List.{List}
 use native.Mathlib.Omega.{arith}
 use lib.Dec.{eqb, leb}
 use lib.ListN.{length}
-use Rattle.bytes_at.specs.declared.Walk.{Walk}
-use Rattle.bytes_at.specs.declared.Walk.TheVariants.{Bad, To}
+use Rattle.std.specs.Prelude.{Err, Ok, Option, Some, None}
 use Rattle.kind.specs.Kinds.{kind_of}
-use Rattle.kind.specs.declared.Found.{Found}
-use Rattle.kind.specs.declared.Found.TheVariants.{Is, Nothing}
 use Rattle.kind.specs.declared.Kind.{Kind}
 use Rattle.kind.specs.declared.Limits.{Limits}
 use Rattle.logic.specs.Loops.{any}
 use Rattle.part.specs.declared.Part.{Part}
 use Rattle.refusal.specs.Numbers.{number_of}
 use Rattle.refusal.specs.Outcomes.{Outcome, refused, resulted, after, or_refuse}
-use Rattle.bytes_at.specs.Walks.{standing}
+use Rattle.bytes_at.specs.Walks.{standing, Walk}
 use Rattle.refusal.proofs.TestLaws.{either_way}
 use Rattle.refusal.specs.declared.Refusal.{Refusal}
 use Rattle.refusal.specs.declared.Refusal.TheVariants.{TooShort, OtherTable, Indicator, LengthRange, ByteCount, Checksum, ProtocolVersion, SectionNumber, Body, NotAReadPair, BrokenText, OutputShort, NoSuchEntry, ShelfBroken, OutOfRange, NotCurrent, NotWatched, AboveQuota, AlreadyWatched, NoRecordLeft, NoPlacesLeft, NotHeld, FieldTooLarge, SectionTooLong}
@@ -106,15 +103,15 @@ lengths_numbered l k s =
     (either_way Numbered 4 _ _ (omega arith) (either_way Numbered 4 _ _ (omega arith)
     (either_way Numbered 5 _ _ (omega arith) (either_way Numbered 6 _ _ (omega arith) (numbers_numbered l k s))))))
 
-kind_numbered : (s : List ℕ) (f : Found) → Numbered (of_kind s f)
+kind_numbered : (s : List ℕ) (f : Option Kind) → Numbered (of_kind s f)
 unfolding of_kind
-kind_numbered s Nothing = omega arith
-kind_numbered s (Is k) = lengths_numbered _ k s
+kind_numbered s None = omega arith
+kind_numbered s (Some k) = lengths_numbered _ k s
 
 body_numbered : (w : Walk) (h : Header) → Numbered (after (standing w) (λ e. resulted h))
 unfolding after standing
-body_numbered (To e) h = tt
-body_numbered (Bad e) h = omega arith
+body_numbered (Ok e) h = tt
+body_numbered (Err e) h = omega arith
 
 with_numbered : (o : Outcome Header) (s : List ℕ) → Numbered o → Numbered (after o (λ h. body_test h s))
 unfolding after body_test

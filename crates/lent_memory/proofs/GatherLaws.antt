@@ -1,19 +1,13 @@
 -- Sixteen watches of a list, read one by one: all of them, as a lent list is gathered, or the first i of an array.
-use Prim.Native.Nat.{ℕ, zero, suc, ◌+◌, ◌<◌, ◌≤◌}
-use mathlib.Core.Bool.{Bool, true, false}
-use mathlib.Core.Path.{◌≡◌, refl, sym, ◌∙◌, ap, subst}
+use Prim.Native.Nat.{ℕ, zero, suc, ◌+◌, ◌<◌}
+use mathlib.Core.Path.{◌≡◌, refl, sym, ◌∙◌, ap}
 use mathlib.Core.List.{List, [], ◌∷◌}
 use native.Mathlib.Numerals.{add-one}
 use native.Mathlib.Nat.{not-suc-le-zero, le_of_suc-le-suc}
-use native.Mathlib.Omega.{arith}
-use lib.Dec.{T, ltb, ltb→lt}
 use lib.ListN.{get_or, length, replicate, set, take}
-use Rattle.logic.specs.Choices.{pick}
-use Rattle.logic.proofs.LoopLaws.{at_end}
 use Rattle.shelf_state.specs.Records.{blank_watch}
-use Rattle.shelf_state.specs.declared.records.Shelf.{Shelf}
 use Rattle.shelf_state.specs.declared.records.Watch.{Watch}
-use Rattle.lent_memory.specs.Meaning.{blank, clamp, shelf_in, watch_meant, watches_meant}
+use Rattle.lent_memory.specs.Meaning.{blank, watch_meant, watches_meant}
 use Rattle.lent_memory.specs.Inner.{four_at, sixteen}
 use Rattle.lent_memory.specs.declared.records.LentWatch.{LentWatch}
 
@@ -54,26 +48,8 @@ one_taken (suc n) [] i d h k = absurd (not-suc-le-zero h)
 one_taken (suc n) (w ∷ ws) zero d h k = refl
 one_taken (suc n) (w ∷ ws) (suc i) d h k = ap (λ (l : List Watch). watch_meant w ∷ l) (one_taken n ws i d (le_of_suc-le-suc h) (le_of_suc-le-suc k))
 
-all_taken : (n : ℕ) (ws : List LentWatch) (i : ℕ) → n ≤ i → watches_meant n (take n ws) ≡ watches_meant n (take i ws)
-unfolding watches_meant
-all_taken zero ws i h = refl
-all_taken (suc n) ws zero h = absurd (not-suc-le-zero h)
-all_taken (suc n) [] (suc i) h = refl
-all_taken (suc n) (w ∷ ws) (suc i) h = ap (λ (l : List Watch). watch_meant w ∷ l) (all_taken n ws i (le_of_suc-le-suc h))
-
 pub taken_none : (ws : List LentWatch) → replicate 16 blank_watch ≡ watches_meant 16 (take 0 ws)
 taken_none ws = sym (none_taken 16)
 
 pub taken_step : (ws : List LentWatch) (rs : List Watch) (i : ℕ) (d : LentWatch) (v : Watch) → i < length ws → i < 16 → rs ≡ watches_meant 16 (take i ws) → v ≡ watch_meant (get_or ws i d) → set rs i v ≡ watches_meant 16 (take (i + 1) ws)
 taken_step ws rs i d v h k e f = rw (e, f, add-one i) (one_taken 16 ws i d h k)
-
-pub taken_end : (ws : List LentWatch) (rs : List Watch) (i n : ℕ) → i ≤ n → n ≤ i → rs ≡ watches_meant 16 (take i ws) → rs ≡ watches_meant 16 (take n ws)
-taken_end ws rs i n h g e = at_end (λ n. watches_meant 16 (take n ws)) h g e
-
--- ---- the shelf of an array's first n records
-clamped : (ws : List LentWatch) (n : ℕ) (b : Bool) → ltb 16 n ≡ b → watches_meant 16 (take (pick b 16 n) ws) ≡ watches_meant 16 (take n ws)
-clamped ws n true e = all_taken 16 ws n (omega (arith, ltb→lt 16 n (subst T (sym e) tt)))
-clamped ws n false e = refl
-
-pub shelf_taken : (s : Shelf) (n m : ℕ) (ws : List LentWatch) (rs : List Watch) (l : List ℕ) → m ≡ clamp 16 n → rs ≡ watches_meant 16 (take m ws) → s ≡ shelf_in n rs l → s ≡ shelf_in n (watches_meant 16 (take n ws)) l
-shelf_taken s n m ws rs l e f g = g ∙ ap (λ (r : List Watch). shelf_in n r l) (f ∙ ap (λ (k : ℕ). watches_meant 16 (take k ws)) e ∙ clamped ws n (ltb 16 n) refl)

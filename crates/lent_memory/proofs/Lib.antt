@@ -1,4 +1,4 @@
-pub mod Element
 pub mod GatherLaws
+pub mod EqualLaws
 pub mod RowLaws
 pub mod ReplyLaws

@@ -1,12 +1,10 @@
--- A reply's three numbers, and that the numbers of every answer fit them.
+-- The numbers of every answer fit a reply.
 use Prim.Native.Nat.{ℕ, ◌<◌, ◌+◌}
 use mathlib.Core.Path.{◌≡◌, refl, ◌∙◌, sym}
 use mathlib.Core.Bool.{Bool, true, false}
-use mathlib.Core.List.{List, [], ◌∷◌}
 use native.Mathlib.Omega.{arith}
 use borrow.Author.Tests.{ltb-true}
 use lib.Dec.{eqb}
-use lib.ListN.{length, set}
 use Rattle.logic.proofs.CountLaws.{count_upto}
 use Rattle.logic.proofs.LoopLaws.{any_first, first_has}
 use Rattle.logic.specs.Choices.{if_eq, pick}
@@ -23,13 +21,6 @@ use Rattle.shelf.specs.Views.{Status, complete, held, unheard, held_or_complete,
 use Rattle.shelf.specs.Calls.{fetched, fetched_from, held_numbers, or_refuse_with, status_after}
 use Rattle.refusal.specs.Outcomes.{resulted}
 use Rattle.lent_memory.specs.Inner.{SmallPart, SmallStatus}
-
-pub three_set : (l : List ℕ) (a b c : ℕ) → length l ≡ 3 → set (set (set l 0 a) 1 b) 2 c ≡ a ∷ b ∷ c ∷ []
-three_set [] a b c e = absurd (omega (arith, e))
-three_set (x ∷ []) a b c e = absurd (omega (arith, e))
-three_set (x ∷ y ∷ []) a b c e = absurd (omega (arith, e))
-three_set (x ∷ y ∷ z ∷ []) a b c e = refl
-three_set (x ∷ y ∷ z ∷ v ∷ l) a b c e = absurd (omega (arith, e))
 
 abbrev Fits : ℕ → Type 0
 Fits n = n < 4294967296

@@ -1,20 +1,22 @@
 -- Rows, one more at a time: read into places, and written where a place is another.
 use Prim.Native.Nat.{ℕ, zero, suc, ◌+◌, ◌*◌, ◌≤◌, ◌<◌, ◌/◌, ◌%◌}
-use mathlib.Core.Path.{◌≡◌, refl, ◌∙◌, ap}
+use mathlib.Core.Path.{◌≡◌, refl, ◌∙◌, ap, sym}
 use mathlib.Core.Logic.{⊎_elim}
-use mathlib.Core.Bool.{Bool, true, false}
+use mathlib.Core.Bool.{Bool, true, false, not}
 use mathlib.Core.List.{List}
 use native.Mathlib.Numerals.{add-one}
 use native.Mathlib.Omega.{arith}
 use borrow.Author.Tests.{ltb-true, ltb-false}
 use lib.Dec.{eqb, ltb}
 use lib.ListN.{set, length, length-set}
-use Rattle.logic.proofs.LoopLaws.{at_end, both}
+use Rattle.logic.proofs.LoopLaws.{both, not_e}
 use Rattle.logic.specs.Choices.{pick}
 use Rattle.logic.specs.Loops.{one}
 use Rattle.shelf_state.specs.Records.{place_at}
 use Rattle.shelf_state.specs.declared.records.Place.{Place}
 use Rattle.shelf_state.specs.declared.records.Shelf.{Shelf}
+use Rattle.logic.proofs.TestLaws.{not_no}
+use Rattle.lent_memory.proofs.EqualLaws.{place_is, places}
 use Rattle.lent_memory.specs.Meaning.{clamp, place_meant, row_count, places_meant}
 use Rattle.lent_memory.specs.Changes.{equal_place, row_put, rows_below, write_row}
 
@@ -25,9 +27,6 @@ places_none l d = refl
 pub places_step : (l : List ℕ) (d ps : List Place) (i : ℕ) (p : Place) → ps ≡ places_meant i l d → p ≡ place_meant l i → set ps i p ≡ places_meant (i + 1) l d
 unfolding places_meant
 places_step l d ps i p e f = rw (e, f, add-one i)
-
-pub places_end : (l : List ℕ) (d ps : List Place) (i n : ℕ) → i ≤ n → n ≤ i → ps ≡ places_meant i l d → ps ≡ places_meant n l d
-places_end l d ps i n h g e = at_end (λ n. places_meant n l d) h g e
 
 -- ---- how many rows are read
 pub count_fits : (n : ℕ) → row_count n * 5 ≤ n
@@ -50,9 +49,21 @@ pub written_none : (s t : Shelf) (l : List ℕ) → l ≡ rows_below 0 s t l
 unfolding rows_below
 written_none s t l = refl
 
-pub written_step : (s t : Shelf) (l m : List ℕ) (i : ℕ) → m ≡ rows_below i s t l → pick (equal_place (place_at s i) (place_at t i)) m (write_row m i (place_at t i)) ≡ rows_below (i + 1) s t l
+written_step : (s t : Shelf) (l m : List ℕ) (i : ℕ) → m ≡ rows_below i s t l → pick (equal_place (place_at s i) (place_at t i)) m (write_row m i (place_at t i)) ≡ rows_below (i + 1) s t l
 unfolding rows_below row_put
 written_step s t l m i e = rw (e, add-one i)
+
+-- where the code's test says that the place is another, and where it says that it is the same
+module _ (s t : Shelf) (l m : List ℕ) (i : ℕ) {r : Bool} (is : r ≡ not (places (place_at s i) (place_at t i))) (e : m ≡ rows_below i s t l) where
+  pub written_other : r ≡ true → write_row m i (place_at t i) ≡ rows_below (i + 1) s t l
+  written_other f =
+      ap (λ (b : Bool). pick b m (write_row m i (place_at t i))) (sym (not_e _ (sym is ∙ f)) ∙ place_is (place_at s i) (place_at t i))
+      ∙ written_step s t l m i e
+
+  pub written_same : r ≡ false → m ≡ rows_below (i + 1) s t l
+  written_same f =
+      ap (λ (b : Bool). pick b m (write_row m i (place_at t i))) (sym (not_no _ (sym is ∙ f)) ∙ place_is (place_at s i) (place_at t i))
+      ∙ written_step s t l m i e
 
 row_length : (l : List ℕ) (i : ℕ) (p : Place) → length (write_row l i p) ≡ length l
 row_length l i p =
@@ -72,6 +83,3 @@ written_length zero s t l = refl
 written_length (suc n) s t l =
     let e = written_length n s t l in
     at_length (equal_place (place_at s n) (place_at t n)) (rows_below n s t l) (write_row (rows_below n s t l) n (place_at t n)) (length l) e (row_length (rows_below n s t l) n (place_at t n) ∙ e)
-
-pub written_end : (l m : List ℕ) (s t : Shelf) (i n k : ℕ) → i ≤ n → n ≤ i → m ≡ rows_below i s t l → n ≡ k → m ≡ rows_below k s t l
-written_end l m s t i n k h g e q = at_end (λ n. rows_below n s t l) h g e ∙ ap (λ (n : ℕ). rows_below n s t l) q

@@ -1,10 +1,9 @@
 // The lent list of watch records: read into a book of sixteen watches by value, and one record written back.
 ghost use Rattle.std.specs.Prelude.{◌≡◌, get_or, set};
-ghost use Rattle.logic.specs.Loops.{one};
 ghost use Rattle.lent_memory.specs.Meaning.{blank, is_on, watch_meant, lent_record};
 ghost use Rattle.lent_memory.specs.Inner.{four_at, sixteen, Gathered};
 
-use shelf_state::inner::{blank_watch, wide};
+use shelf_state::inner::blank_watch;
 use shelf_state::{Edition, Key, Watch};
 
 // A watch record as it is lent: `live` and `heard` are set where they are not 0.
@@ -55,12 +54,6 @@ pub fn is_on(x: usize) -> bool
     x != 0
 }
 
-pub fn flag(b: bool) -> u8
-    ensures { result ≡ one b }
-{
-    if b { 1 } else { 0 }
-}
-
 pub fn blank_record() -> LentWatch
     ensures { result ≡ blank }
 {
@@ -70,30 +63,27 @@ pub fn blank_record() -> LentWatch
 pub fn watch_meant(r: LentWatch) -> Watch
     ensures { result ≡ watch_meant r }
 {
-    let edition = Edition {
-        heard: is_on(wide(r.heard)),
-        version: r.version,
-        last: r.last,
-    };
-    let key = r.key;
     Watch {
-        live: is_on(wide(r.live)),
-        key,
+        live: r.live != 0,
+        key: r.key,
         quota: r.quota,
-        edition,
+        edition: Edition {
+            heard: r.heard != 0,
+            version: r.version,
+            last: r.last,
+        },
     }
 }
 
 pub fn record_of(w: Watch) -> LentWatch
     ensures { result ≡ lent_record w }
 {
-    let key = w.key;
     let edition = w.edition;
     LentWatch {
-        live: flag(w.live),
-        key,
+        live: u8::from(w.live),
+        key: w.key,
         quota: w.quota,
-        heard: flag(edition.heard),
+        heard: u8::from(edition.heard),
         version: edition.version,
         last: edition.last,
     }

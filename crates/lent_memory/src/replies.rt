@@ -1,7 +1,8 @@
 // What a call is asked and what it answers, as numbers in lent memory.
 ghost use Rattle.std.specs.Prelude.{◌≡◌, [], ◌∷◌, ◌<◌, length};
 ghost use Rattle.refusal.specs.Numbers.{number_of};
-ghost use Rattle.shelf.specs.Answers.{change_outcome, status_outcome, fetch_outcome};
+ghost use Rattle.refusal.specs.Outcomes.{outcome, outcome_by};
+ghost use Rattle.shelf.specs.Answers.{status_told};
 ghost use Rattle.lent_memory.specs.Meaning.{blank};
 ghost use Rattle.refusal.specs.Outputs.{number_in};
 ghost use Rattle.lent_memory.specs.Replies.{status_numbers, part_numbers, reply_after, call_fits, asked_in, amount_in};
@@ -9,8 +10,9 @@ ghost use Rattle.lent_memory.specs.Inner.{SmallStatus, SmallPart};
 
 use crate::records::{Ending, blank_record};
 use crate::rows::{number_at, put_number};
+use part::Part;
 use refusal::Refusal;
-use shelf::{Change, Fetched, Progress};
+use shelf::Progress;
 use shelf_state::Asked;
 
 // A question: PID, table_id, extension, and a quota or a section's number.
@@ -22,13 +24,11 @@ pub const REPLY: usize = 3;
 // What stands where there is no value: a blank is not a nought.
 pub const NO_VALUE: usize = 0xffff_ffff;
 
+#[tactic(auto, using(logic::proofs::TestLaws::joined), unfolding(crate::specs::Replies::call_fits))]
 pub fn call_fits(question: &[u32], reply: &[u32]) -> bool
     ensures { result ≡ call_fits question.now reply.now }
 {
-    if question.len() != QUESTION {
-        return false;
-    }
-    reply.len() == REPLY
+    question.len() == QUESTION && reply.len() == REPLY
 }
 
 // An extension that does not fit its field makes the PID one that no watch can have.
@@ -56,26 +56,25 @@ pub fn amount_in(question: &[u32]) -> usize
 pub fn broken(records: usize) -> Ending
     ensures { result ≡ record { number = 14; at = records; watch = blank } }
 {
-    let watch = blank_record();
     Ending {
         number: 14,
         at: records,
-        watch,
+        watch: blank_record(),
     }
 }
 
 fn number_of(k: Refusal) -> u32
     ensures { result ≡ number_of k }
 {
-    k.number() as u32
+    u32::from(k.number())
 }
 
-pub fn change_number(answer: Change) -> u32
-    ensures { result ≡ number_in (change_outcome answer) }
+pub fn change_number(answer: Result<(), Refusal>) -> u32
+    ensures { result ≡ number_in (outcome answer) }
 {
     match answer {
-        Change::Refused(k) => number_of(k),
-        Change::Done => 0,
+        Ok(()) => 0,
+        Err(k) => number_of(k),
     }
 }
 
@@ -88,30 +87,28 @@ fn tell(reply: &mut [u32], code: usize, x: usize, y: usize)
     put_number(reply, 2, y);
 }
 
-pub fn tell_status(reply: &mut [u32], answer: Progress) -> u32
-    requires { (length reply.old ≡ 3) × SmallStatus (status_outcome answer) }
-    ensures { (result ≡ number_in (status_outcome answer)) × (reply.new ≡ reply_after status_numbers reply.old (status_outcome answer)) }
+pub fn tell_status(reply: &mut [u32], answer: Result<Progress, Refusal>) -> u32
+    requires { (length reply.old ≡ 3) × SmallStatus (outcome_by status_told answer) }
+    ensures { (result ≡ number_in (outcome_by status_told answer)) × (reply.new ≡ reply_after status_numbers reply.old (outcome_by status_told answer)) }
 {
     match answer {
-        Progress::Refused(k) => {
-            return number_of(k);
-        }
-        Progress::NothingHeard => tell(reply, 1, NO_VALUE, NO_VALUE),
-        Progress::Part { held, of } => tell(reply, 2, held, of),
-        Progress::Complete { of } => tell(reply, 3, of, of),
+        Ok(Progress::NothingHeard) => tell(reply, 1, NO_VALUE, NO_VALUE),
+        Ok(Progress::Part { held, of }) => tell(reply, 2, held, of),
+        Ok(Progress::Complete { of }) => tell(reply, 3, of, of),
+        Err(k) => return number_of(k),
     }
     0
 }
 
-pub fn tell_fetched(reply: &mut [u32], answer: Fetched) -> u32
-    requires { (length reply.old ≡ 3) × SmallPart (fetch_outcome answer) }
-    ensures { (result ≡ number_in (fetch_outcome answer)) × (reply.new ≡ reply_after part_numbers reply.old (fetch_outcome answer)) }
+pub fn tell_fetched(reply: &mut [u32], answer: Result<Part, Refusal>) -> u32
+    requires { (length reply.old ≡ 3) × SmallPart (outcome answer) }
+    ensures { (result ≡ number_in (outcome answer)) × (reply.new ≡ reply_after part_numbers reply.old (outcome answer)) }
 {
     match answer {
-        Fetched::Refused(k) => number_of(k),
-        Fetched::At(p) => {
+        Ok(p) => {
             tell(reply, 4, p.start, p.length);
             0
         }
+        Err(k) => number_of(k),
     }
 }

@@ -4,8 +4,8 @@ ghost use Rattle.shelf_state.specs.Records.{blank_place};
 ghost use Rattle.lent_memory.specs.Meaning.{clamp, place_meant, row_count, row_size, places_meant, shelf_in};
 ghost use Rattle.lent_memory.specs.Changes.{write_row};
 
-use crate::records::{Book, flag, is_on};
-use shelf_state::inner::{blank_place, wide, wide_word};
+use crate::records::{Book, is_on};
+use shelf_state::inner::blank_place;
 use shelf_state::{Place, Shelf};
 
 // A row: used, watch, number, length, and the time, which is 0 and is not read.
@@ -35,19 +35,19 @@ pub fn put_number(l: &mut [u32], i: usize, x: usize)
 fn byte_of(x: usize) -> u8
     ensures { result ≡ clamp 255 x }
 {
-    if 255 < x { 255 } else { x as u8 }
+    u8::try_from(x).unwrap_or(u8::MAX)
 }
 
 fn word_of(x: usize) -> u16
     ensures { result ≡ clamp 65535 x }
 {
-    if 65535 < x { 65535 } else { x as u16 }
+    u16::try_from(x).unwrap_or(u16::MAX)
 }
 
 pub fn at_most(m: usize, x: usize) -> usize
     ensures { (result ≡ clamp m x) × (result ≤ m) }
 {
-    if m < x { m } else { x }
+    x.min(m)
 }
 
 fn place_meant(l: &[u32], i: usize) -> Place
@@ -75,10 +75,8 @@ fn places_meant(l: &[u32], n: usize) -> [Place; 64]
 {
     let blank = blank_place();
     let mut ps = [blank; 64];
-    let mut i = 0;
-    while i < n {
+    for i in 0..n {
         ps[i] = place_meant(l, i);
-        i += 1;
     }
     ps
 }
@@ -103,9 +101,9 @@ pub fn write_row(l: &mut [u32], i: usize, p: Place)
     ensures { l.new ≡ write_row l.old i p }
 {
     let k = i * ROW;
-    put_number(l, k, wide(flag(p.used)));
-    put_number(l, k + 1, wide(p.watch));
-    put_number(l, k + 2, wide(p.number));
-    put_number(l, k + 3, wide_word(p.length));
+    put_number(l, k, usize::from(p.used));
+    put_number(l, k + 1, usize::from(p.watch));
+    put_number(l, k + 2, usize::from(p.number));
+    put_number(l, k + 3, usize::from(p.length));
     put_number(l, k + 4, 0);
 }

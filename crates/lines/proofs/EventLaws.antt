@@ -1,15 +1,15 @@
 -- The events of an EIT that was judged, one line each: the lines that are left lead to the answer.
-use Prim.Native.Nat.{ℕ, zero, suc, ◌-◌, ◌≤◌, ◌<◌}
-use mathlib.Core.Path.{◌≡◌, sym, ap, ◌∙◌, subst}
-use mathlib.Core.List.{List}
+use Prim.Native.Nat.{ℕ, zero, suc, ◌-◌, ◌≤◌, ◌<◌, min}
+use mathlib.Core.Path.{◌≡◌, refl, sym, ap, ◌∙◌, subst}
+use mathlib.Core.List.{List, [], ◌∷◌}
 use native.Mathlib.Numerals.{sub-one}
 use native.Mathlib.Omega.{arith}
 use lib.ListN.{length}
-use Rattle.bytes_at.specs.declared.Walk.TheVariants.{To}
+use Rattle.std.specs.Prelude.{Ok}
 use Rattle.bytes_at.proofs.WalkLaws.{many_inv}
 use Rattle.refusal.specs.Outcomes.{resulted}
 use Rattle.kind.specs.declared.Kind.{Kind}
-use Rattle.kind.specs.declared.Kind.TheVariants.{Eit}
+use Rattle.kind.specs.declared.Kind.TheVariants.{Mgt, Tvct, Rrt, Eit, Ett}
 use Rattle.kind.specs.Kinds.{limits_of, kind_of}
 use Rattle.format.specs.Repeats.{Bytes}
 use Rattle.format.specs.Formats.{walks}
@@ -38,7 +38,7 @@ title_in_lem s start n size h =
     eq_either (Placed size) _ _ (record {})
     (eq_either (Placed size) _ _ (eq_either (Placed size) _ _ (record {}) h _ _) h _ _) _ _
 
-first_stands : (s : List ℕ) (n a : ℕ) (v : Events s n a) → 0 < n → (b : ℕ) × (walks event s v.end a ≡ To b)
+first_stands : (s : List ℕ) (n a : ℕ) (v : Events s n a) → 0 < n → (b : ℕ) × (walks event s v.end a ≡ Ok b)
 first_stands s n a v h = let p = many_inv _ n a v.stands.0 h v.stands.1 in (p.0, p.1.0)
 
 pub title_placed : (s : List ℕ) (n a : ℕ) → Bytes s → Events s n a → 0 < n → Placed (length s) (event_at s a).title
@@ -56,7 +56,7 @@ eit_events s h p q =
     let v = any_header_passed s h (section_header kind_of s h p) in
     let k : v.0 ≡ Eit = sym (ap (λ (g : Header). g.kind) v.1.fields) ∙ q in
     let c = subst (λ (x : Kind). Passed x s h) k v.1 in
-    let b = body_events s (length s - 4) (limits_of Eit).body w.0 (subst (λ (x : Kind). body_walk x s ≡ To w.0) q w.1) in
+    let b = body_events s (length s - 4) (limits_of Eit).body w.0 (subst (λ (x : Kind). body_walk x s ≡ Ok w.0) q w.1) in
     record { end = length s - 4; stands = b.0; begins = omega (arith, b.1); inside = omega arith; small = omega (arith, c.largest, c.size) }
 
 -- of the kind that was read, with its body where the code begins it
@@ -68,6 +68,15 @@ section_events s h at p q e =
 pub events_rest : (s : List ℕ) (k : Kind) (at : ℕ) → k ≡ Eit → at ≡ (limits_of k).body → events_shown s at ≡ rest_shown s k
 unfolding rest_shown
 events_rest s k at q e = rw q (ap (events_shown s) (e ∙ ap (λ (x : Kind). (limits_of x).body) q))
+
+-- the other kinds end their line
+pub other_rest : (s : List ℕ) (k : Kind) → (k ≡ Eit → ⊥) → 10 ∷ [] ≡ rest_shown s k
+unfolding rest_shown
+other_rest s Mgt h = refl
+other_rest s Tvct h = refl
+other_rest s Rrt h = refl
+other_rest s Eit h = absurd (h refl)
+other_rest s Ett h = refl
 
 -- ---- the loop over the events
 -- one line is put, and the others are left
@@ -83,16 +92,21 @@ pub record Left (s : List ℕ) (k from : ℕ) (l : List ℕ) (n : ℕ) (out : Li
   pub inside : m ≤ length out
   pub leads : (r : ℕ) (e : List ℕ) → Put (event_lines s left a) out m r e → Put (event_lines s k from) l n r e
 
-pub left_step : {s l out out' : List ℕ} {k from n m m' a a' left : ℕ} → Left s k from l n out m a left → 0 < left
-    → Put (event_line s a) out m m' out' → a' ≡ event_end s a → Left s k from l n out' m' a' (left - 1)
-left_step {s} {l} {out} {out'} {k} {from} {n} {m} {m'} {a} {a'} {left} i h p q =
-    let next : Left s k from l n out' m' (event_end s a) (left - 1) = record {
-      events = events_step s left a i.events h;
+pub left_first : {s l : List ℕ} {k from n m left : ℕ} → Events s k from → m ≡ min (length l) n → left ≡ k → Left s k from l n l m from left
+left_first {s} {l} {k} {from} {n} {m} v q e =
+    rw e
+    (record { events = v; size = refl; inside = omega (arith, q); leads = λ r e t. put_then (put_nothing l n m q) t })
+
+pub left_step : {s l out out' : List ℕ} {k from n m m' a a' left fewer : ℕ} → Left s k from l n out m a left → 0 < left → fewer ≡ left - 1
+    → Put (event_line s a) out m m' out' → a' ≡ event_end s a → Left s k from l n out' m' a' fewer
+left_step {a = a} {left = left} i h f p q =
+    rw (f, q)
+    (record {
+      events = events_step _ left a i.events h;
       size = put_size p ∙ i.size;
       inside = put_inside p;
-      leads = λ r e t. i.leads r e (line_more s left a h p t);
-    } in
-    subst (λ (x : ℕ). Left s k from l n out' m' x (left - 1)) (sym q) next
+      leads = λ r e t. i.leads r e (line_more _ left a h p t);
+    })
 
 pub left_done : {s l out : List ℕ} {k from n m a left : ℕ} → Left s k from l n out m a left → left ≡ 0 → Put (event_lines s k from) l n m out
 unfolding event_lines

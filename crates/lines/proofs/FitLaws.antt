@@ -6,17 +6,14 @@ use mathlib.Core.List.{List, ◌++◌}
 use native.Mathlib.Numerals.{sub-one}
 use native.Mathlib.Omega.{arith}
 use lib.ListN.{length, drop, length-append, length-take}
-use Rattle.bytes_at.specs.declared.Walk.{Walk}
-use Rattle.bytes_at.specs.declared.Walk.TheVariants.{To, Bad}
+use Rattle.std.specs.Prelude.{Ok, Err, Option, Some, None}
 use Rattle.bytes_at.specs.Fields.{byte_at}
 use Rattle.refusal.specs.Numbers.{number_of}
 use Rattle.refusal.specs.Outcomes.{Outcome, refused, resulted, after}
-use Rattle.bytes_at.specs.Walks.{standing}
+use Rattle.bytes_at.specs.Walks.{standing, Walk}
 use Rattle.refusal.proofs.TestLaws.{either_way}
 use Rattle.kind.specs.declared.Kind.{Kind}
 use Rattle.kind.specs.declared.Kind.TheVariants.{Mgt, Tvct, Rrt, Eit, Ett}
-use Rattle.kind.specs.declared.Found.{Found}
-use Rattle.kind.specs.declared.Found.TheVariants.{Is, Nothing}
 use Rattle.kind.specs.Kinds.{limits_of, kind_of}
 use Rattle.format.specs.Repeats.{Bytes}
 use Rattle.format.specs.Laws.OfBytes.{part_bytes}
@@ -109,10 +106,10 @@ module _ (s : List ℕ) (z : Bytes s) where
       (either_way Told 4 _ _ (omega arith) (either_way Told 4 _ _ (omega arith)
       (either_way Told 5 _ _ (omega arith) (either_way Told 6 _ _ (omega arith) (numbers_told k))))))
 
-  kind_told : (f : Found) → Told (of_kind s f)
+  kind_told : (f : Option Kind) → Told (of_kind s f)
   unfolding of_kind
-  kind_told Nothing = omega arith
-  kind_told (Is k) = lengths_told k
+  kind_told None = omega arith
+  kind_told (Some k) = lengths_told k
 
   header_told : Told (header_by kind_of s)
   unfolding header_by
@@ -120,8 +117,8 @@ module _ (s : List ℕ) (z : Bytes s) where
 
   body_told : (w : Walk) (h : Header) → Told (resulted h) → Told (after (standing w) (λ e. resulted h))
   unfolding after standing
-  body_told (To e) h t = t
-  body_told (Bad x) h t = omega arith
+  body_told (Ok e) h t = t
+  body_told (Err x) h t = omega arith
 
   with_told : (o : Outcome Header) → Told o → Told (after o (λ h. body_test h s))
   unfolding after body_test

@@ -1,5 +1,5 @@
 // The lines of the events of an EIT that was judged.
-ghost use Rattle.std.specs.Prelude.{◌≡◌, ◌++◌, ◌≤◌, length};
+ghost use Rattle.std.specs.Prelude.{◌++◌, ◌≤◌, length};
 ghost use Rattle.eit.specs.Fields.{count_at, first_at, event_at};
 ghost use Rattle.eit.specs.Inner.{Events};
 ghost use Rattle.shown.specs.Ascii.{ascii};
@@ -9,7 +9,7 @@ ghost use Rattle.shown.specs.Output.{Put};
 ghost use Rattle.shown.specs.Inner.{Placed};
 
 use eit::{Event, Title, count, event_at, event_end, first};
-use shown::{least, put_all, put_field, put_title};
+use shown::{put_all, put_field, put_title};
 
 fn put_times(out: &mut [u8], n: usize, e: Event) -> usize
     ensures { Put (times_shown e) out.old n result out.new }
@@ -21,9 +21,8 @@ fn put_times(out: &mut [u8], n: usize, e: Event) -> usize
 
 // The title, and the line's end.
 fn put_rest(s: &[u8], t: Title, units: &mut [u16; 2040], out: &mut [u8], n: usize) -> usize
-    requires { Placed (length s.now) t × (length units.old ≡ 2040) }
-    ensures puts { Put (ascii " title " ++ (title_shown s.now t ++ ascii "\n")) out.old n result out.new }
-    ensures keeps { length units.new ≡ length units.old }
+    requires { Placed (length s.now) t }
+    ensures { Put (ascii " title " ++ (title_shown s.now t ++ ascii "\n")) out.old n result out.new }
 {
     let start = put_all(out, n, b" title ");
     let end = put_title(s, t, units, out, start);
@@ -31,9 +30,8 @@ fn put_rest(s: &[u8], t: Title, units: &mut [u16; 2040], out: &mut [u8], n: usiz
 }
 
 fn put_event(s: &[u8], a: usize, units: &mut [u16; 2040], out: &mut [u8], n: usize) -> usize
-    requires { (a ≤ length s.now) × (Placed (length s.now) (event_at s.now a).title × (length units.old ≡ 2040)) }
-    ensures puts { Put (event_line s.now a) out.old n result out.new }
-    ensures keeps { length units.new ≡ length units.old }
+    requires { (a ≤ length s.now) × Placed (length s.now) (event_at s.now a).title }
+    ensures { Put (event_line s.now a) out.old n result out.new }
 {
     let e = event_at(s, a);
     let t = e.title;
@@ -49,16 +47,14 @@ fn put_events(
     out: &mut [u8],
     n: usize,
 ) -> usize
-    requires { Events s.now k from × (length units.old ≡ 2040) }
+    requires { Events s.now k from }
     ensures { Put (event_lines s.now k from) out.old n result out.new }
 {
-    let mut m = least(out.len(), n);
+    let mut m = out.len().min(n);
     let mut a = from;
-    let mut left = k;
-    while 0 < left {
+    for _ in 0..k {
         m = put_event(s, a, units, out, m);
         a = event_end(s, a);
-        left -= 1;
     }
     m
 }

@@ -11,7 +11,7 @@ use crate::event::put_eit;
 use kind::Kind;
 use refusal::Refusal;
 use section::inner::body_start;
-use section::{Head, Header, judge_any};
+use section::{Header, judge_any};
 use shown::{number_of, put_all, put_field, put_number};
 
 fn put_kind(out: &mut [u8], n: usize, kind: Kind) -> usize
@@ -50,10 +50,7 @@ fn put_body(s: &[u8], h: Header, out: &mut [u8], n: usize) -> usize
     let kind = h.kind;
     match kind {
         Kind::Eit => put_eit(s, body_start(kind), out, n),
-        Kind::Mgt => put_all(out, n, b"\n"),
-        Kind::Tvct => put_all(out, n, b"\n"),
-        Kind::Rrt => put_all(out, n, b"\n"),
-        Kind::Ett => put_all(out, n, b"\n"),
+        _ => put_all(out, n, b"\n"),
     }
 }
 
@@ -81,7 +78,7 @@ pub fn put_section(pid: usize, s: &[u8], out: &mut [u8], n: usize) -> usize
         return put_refusal(out, n, Refusal::OutOfRange);
     }
     match judge_any(s) {
-        Head::Refused(k) => put_refusal(out, n, k),
-        Head::Passes(h) => put_sound(pid, s, h, out, n),
+        Ok(h) => put_sound(pid, s, h, out, n),
+        Err(k) => put_refusal(out, n, k),
     }
 }

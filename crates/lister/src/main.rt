@@ -4,9 +4,8 @@
 
 mod unread;
 
-ghost use Rattle.std.specs.Prelude.{◌≡◌, true, ◌-◌, ◌≤◌, ◌<◌, length};
-ghost use Rattle.std.proofs.lemmas.List.Edits.{sets};
-ghost use Rattle.lister.specs.Reading.{in_hand, told_read, ReadMeans, Fetched, StepsTaken};
+ghost use Rattle.std.specs.Prelude.{◌≡◌, ◌-◌, ◌≤◌, ◌<◌, length, IfSome};
+ghost use Rattle.lister.specs.Reading.{told_read, ReadMeans, Fetched, StepsTaken};
 
 use listing::{Input, Next};
 use record::LARGEST;
@@ -26,12 +25,11 @@ struct Hand {
     input: Input,
 }
 
-// The number of the next record, how many bytes are done with, and whether the run goes on.
+// The number of the next record, and how many bytes are done with.
 #[derive(Clone, Copy)]
 struct Answered {
     number: usize,
     taken: usize,
-    more: bool,
 }
 
 // A read that a signal interrupted is tried again.
@@ -41,10 +39,8 @@ fn input_after(errors: &impl Print, got: io::Result<usize>) -> Input
     match got {
         Ok(0) => Input::Ended,
         Ok(_) => Input::More,
+        Err(e) if e.kind() == ErrorKind::Interrupted => Input::More,
         Err(e) => {
-            if e.kind() == ErrorKind::Interrupted {
-                return Input::More;
-            }
             unread::tell(errors, e);
             Input::Unread
         }
@@ -72,19 +68,7 @@ fn read_behind(
     }
 }
 
-// What is in hand is moved to the room's front.
-fn keep(room: &mut [u8], from: usize, to: usize)
-    requires { (from ≤ to) × (to ≤ length room.old) }
-    ensures { room.new ≡ sets room.old 0 (in_hand room.old from to) }
-{
-    let n = to - from;
-    let mut i = 0;
-    while i < n {
-        room[i] = room[from + i];
-        i += 1;
-    }
-}
-
+// Where the room behind what is in hand may be too short for a record, what is in hand is moved to the room's front first.
 fn fetch(
     source: &mut impl Read,
     errors: &impl Print,
@@ -96,47 +80,38 @@ fn fetch(
     ensures { Fetched room.old from to result room.new }
 {
     if room.len() - to < LARGEST {
-        keep(room, from, to);
+        room.copy_within(from..to, 0);
         return read_behind(source, errors, room, 0, to - from);
     }
     read_behind(source, errors, room, from, to)
 }
 
-// Every record that is in hand, until more input is needed. The run goes on unless it is over or the output takes no more.
-fn answer(output: &impl Print, number: usize, held: &[u8], input: Input, out: &mut [u8]) -> Answered
-    ensures { result.more ≡ true → StepsTaken number held.now input result }
+// Every record that is in hand, until more input is needed; nothing where the run is over or the output takes no more.
+fn answer(
+    output: &impl Print,
+    number: usize,
+    held: &[u8],
+    input: Input,
+    out: &mut [u8],
+) -> Option<Answered>
+    ensures { IfSome result (StepsTaken number held.now input) }
 {
-    let mut n = number;
     let mut at = 0;
-    while n < usize::MAX {
+    for n in number..usize::MAX {
         let s = listing::step(n, &held[at..], input, out);
-        let put = s.put;
-        let next = s.next;
-        if output.write_all(&out[..put]).is_err() {
-            break;
-        }
-        match next {
-            Next::Record => {
-                at += s.taken;
-                n += 1;
-            }
+        output.write_all(&out[..s.put]).ok()?;
+        match s.next {
+            Next::Record => at += s.taken,
             Next::Wait => {
-                return Answered {
+                return Some(Answered {
                     number: n,
                     taken: at,
-                    more: true,
-                };
+                });
             }
-            Next::Over => {
-                break;
-            }
+            Next::Over => return None,
         }
     }
-    Answered {
-        number: n,
-        taken: at,
-        more: false,
-    }
+    None
 }
 
 // Every record, as it comes, until the run is over.
@@ -155,18 +130,12 @@ fn list(
         input: Input::More,
     };
     let mut number = 0;
-    let mut turns = 0;
-    while turns < usize::MAX {
-        let from = h.from;
-        let to = h.to;
-        let input = h.input;
-        let a = answer(output, number, &room[from..to], input, out);
-        if !a.more {
+    for _ in 0..usize::MAX {
+        let Some(a) = answer(output, number, &room[h.from..h.to], h.input, out) else {
             return;
-        }
+        };
         number = a.number;
-        h = fetch(source, errors, room, from + a.taken, to);
-        turns += 1;
+        h = fetch(source, errors, room, h.from + a.taken, h.to);
     }
 }
 

@@ -14,14 +14,12 @@ const LONGEST: usize = 320;
 fn words_in(text: &[u8]) -> usize
     ensures { result ≤ length text.now }
 {
-    let mut i = 0;
-    while i < text.len() {
+    for i in 0..text.len() {
         if text[i] == 0 || text[i..].starts_with(NUMBER) {
             return i;
         }
-        i += 1;
     }
-    i
+    text.len()
 }
 
 fn say(errors: &impl Print, words: &[u8]) -> io::Result<()> {

@@ -44,7 +44,7 @@ fn over(put: usize) -> Stepped
 fn put_end(number: usize, held: &[u8], out: &mut [u8]) -> Stepped
     ensures { Tells (short_step number held.now Input.Ended) out.old result out.new }
 {
-    if held.len() == 0 {
+    if held.is_empty() {
         return over(put_last(out, 0, number));
     }
     over(put_bad(out, number))

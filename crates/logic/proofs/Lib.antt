@@ -1,3 +1,4 @@
 pub mod ChoiceLaws
 pub mod LoopLaws
 pub mod CountLaws
+pub mod TestLaws

@@ -3,7 +3,7 @@ use Prim.Native.Nat.{ℕ, ◌-◌, ◌≤◌}
 use mathlib.Core.Path.{◌≡◌, refl, ap, ◌∙◌}
 use mathlib.Core.List.{List, []}
 use native.Mathlib.Omega.{arith}
-use Rattle.bytes_at.specs.declared.Walk.TheVariants.{To}
+use Rattle.std.specs.Prelude.{Ok}
 use Rattle.bytes_at.specs.Fields.{word_at}
 use Rattle.bytes_at.specs.Walks.{many}
 use Rattle.bytes_at.proofs.WalkLaws.{then_inv, ended}
@@ -14,8 +14,8 @@ use Rattle.descriptor.specs.Places.{list12}
 use Rattle.mgt.specs.Walked.{defined, tables, mgt}
 use Rattle.mgt.specs.Fields.{count_at, first_at}
 
-pub body_tables : (s : List ℕ) (end at e : ℕ) → walks_all mgt s end at ≡ To e
-    → (b : ℕ) × ((many (walks defined s end) (count_at s at) (first_at at) ≡ To b) × ((walks (list12 no_tag) s end b ≡ To e) × (first_at at ≤ end)))
+pub body_tables : (s : List ℕ) (end at e : ℕ) → walks_all mgt s end at ≡ Ok e
+    → (b : ℕ) × ((many (walks defined s end) (count_at s at) (first_at at) ≡ Ok b) × ((walks (list12 no_tag) s end b ≡ Ok e) × (first_at at ≤ end)))
 unfolding mgt tables
 body_tables s end at e w =
     let p = then_inv _ _ e w in
@@ -24,4 +24,4 @@ body_tables s end at e w =
     let q = then_inv _ _ r.0 r.1.0 in
     let t = fields_end 16 [] 2 refl at end q.0 q.1.0 in
     let c : word_at s (q.0 - 2) ≡ word_at s at = ap (word_at s) (omega (arith, t)) in
-    (r.0, (rw (c, t.0) at q.1.1, (r.1.1 ∙ ap To (omega (arith, x)), omega (arith, t))))
+    (r.0, (rw (c, t.0) at q.1.1, (r.1.1 ∙ ap Ok (omega (arith, x)), omega (arith, t))))

@@ -5,7 +5,7 @@ use mathlib.Core.List.{List, [], ◌∷◌}
 use native.Mathlib.Omega.{arith}
 use lib.ListN.{length}
 use lib.Seq.{sets}
-use Rattle.bytes_at.specs.declared.Walk.TheVariants.{To}
+use Rattle.std.specs.Prelude.{Ok}
 use Rattle.bytes_at.proofs.WalkLaws.{then_inv}
 use Rattle.format.specs.Formats.{walks}
 use Rattle.format.proofs.FieldLaws.{fields_end}
@@ -18,7 +18,7 @@ use Rattle.row.proofs.RowLaws.{sets_append}
 use Rattle.mgt.specs.Walked.{defined}
 use Rattle.mgt.specs.Fields.{descriptors_at, defined_end, numbers_row, defined_row}
 
-module _ (s : List ℕ) (end a b : ℕ) (w : walks defined s end a ≡ To b) where
+module _ (s : List ℕ) (end a b : ℕ) (w : walks defined s end a ≡ Ok b) where
   -- its head is passed, and then its descriptors
   passed : (d : ℕ) × ((d ≡ a + 9) × ListPassed no_tag 4096 s end d b)
   unfolding defined list12

@@ -26,7 +26,7 @@ use Rattle.mgt.specs.Values.{descriptors_place, defined_for, row_for, tables_end
 use Rattle.mgt.proofs.DefinedLaws.{defined_ends}
 
 -- ---- a defined table
-module _ (s : List ℕ) (z : Bytes s) (a : ℕ) (x : DefinedFields) (o : defined_format.Ok (record {}) x) (l : Lies (defined_format.enc x) s a) where
+module _ (s : List ℕ) (z : Bytes s) (a : ℕ) (x : DefinedFields) (o : defined_format.Formed (record {}) x) (l : Lies (defined_format.enc x) s a) where
   -- its head, and what stands behind it
   head_and_rest : Lies (bytes_of 9 (number defined_head (head_of x.head))) s a
       × Lies ((sized12 (descriptors no_tag)).enc ((x.r, record {}), x.descs)) s (behind defined_head a)
@@ -76,7 +76,7 @@ pub same_walk : (s : List ℕ) (end at : ℕ) → walks_all mgt s end at ≡ wal
 unfolding mgt tables defined list12
 same_walk s end at = refl
 
-module _ (s : List ℕ) (z : Bytes s) (at end : ℕ) (b : MgtFields) (o : mgt_format.Ok (record {}) b) (l : Lies (mgt_format.enc b) s at)
+module _ (s : List ℕ) (z : Bytes s) (at end : ℕ) (b : MgtFields) (o : mgt_format.Formed (record {}) b) (l : Lies (mgt_format.enc b) s at)
     (whole : end ≡ at + length (mgt_format.enc b)) where
   -- the tables with their count, and the table's own descriptors with their length
   abbrev listed : List ℕ

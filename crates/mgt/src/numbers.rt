@@ -6,17 +6,20 @@ ghost use Rattle.mgt.specs.Fields.{defined_end, numbers_row, defined_row};
 use crate::defined::descriptors_at;
 use bytes_at::{byte, long, word};
 use descriptor::list_end;
-use row::{narrow, put_part, put4};
+use row::{narrow, put_all, put_part};
 
 // The first four numbers of a row, from p on.
 fn put_numbers(s: &[u8], a: usize, p: usize, out: &mut [u32])
     requires { (a ≤ length s.now) × (p + 4 ≤ length out.old) }
     ensures { out.new ≡ sets out.old p (numbers_row s.now a) }
 {
-    let sort = narrow(word(s, a));
-    let pid = narrow(word(s, a + 2) % 8192);
-    let version = narrow(byte(s, a + 4) % 32);
-    put4(out, p, sort, pid, version, narrow(long(s, a + 5)));
+    let numbers = [
+        narrow(word(s, a)),
+        narrow(word(s, a + 2) % 8192),
+        narrow(byte(s, a + 4) % 32),
+        narrow(long(s, a + 5)),
+    ];
+    put_all(out, p, numbers);
 }
 
 // The row of the defined table that begins at a, from p on, and where the next one begins.

@@ -4,16 +4,13 @@ ghost use Rattle.bytes_at.specs.Walks.{many};
 ghost use Rattle.format.specs.Formats.{walks, walks_all};
 ghost use Rattle.mgt.specs.Walked.{defined, tables, mgt};
 
-use bytes_at::{Walk, at_end, skip, skip_fields, word_back};
+use bytes_at::{Walk, at_end, repeated, skip, skip_fields, word_back};
 use descriptor::{NO_TAG, whole_list12};
 
 fn one_defined(s: &[u8], end: usize, at: usize) -> Walk
     ensures { result ≡ walks defined s.now end at }
 {
-    let w = skip_fields(at, 16, 16, 8, 32, end);
-    let Walk::To(b) = w else {
-        return w;
-    };
+    let b = skip_fields(at, 16, 16, 8, 32, end)?;
     whole_list12(s, NO_TAG, end, b)
 }
 
@@ -21,27 +18,14 @@ fn one_defined(s: &[u8], end: usize, at: usize) -> Walk
 pub fn past(s: &[u8], end: usize, n: usize, from: usize) -> Walk
     ensures { result ≡ many (walks defined s.now end) n from }
 {
-    let mut at = from;
-    let mut left = n;
-    while 0 < left {
-        let w = one_defined(s, end, at);
-        let Walk::To(b) = w else {
-            return w;
-        };
-        at = b;
-        left -= 1;
-    }
-    Walk::To(at)
+    repeated(n, from, |at| one_defined(s, end, at))
 }
 
 // tables_defined, and the tables.
 fn all_tables(s: &[u8], end: usize, at: usize) -> Walk
     ensures { result ≡ walks tables s.now end at }
 {
-    let w = skip(0, at, 2, end);
-    let Walk::To(b) = w else {
-        return w;
-    };
+    let b = skip(0, at, 2, end)?;
     past(s, end, word_back(s, b), b)
 }
 
@@ -49,13 +33,7 @@ fn all_tables(s: &[u8], end: usize, at: usize) -> Walk
 pub fn body(s: &[u8], end: usize, at: usize) -> Walk
     ensures { result ≡ walks_all mgt s.now end at }
 {
-    let w = all_tables(s, end, at);
-    let Walk::To(b) = w else {
-        return w;
-    };
-    let v = whole_list12(s, NO_TAG, end, b);
-    let Walk::To(e) = v else {
-        return v;
-    };
+    let b = all_tables(s, end, at)?;
+    let e = whole_list12(s, NO_TAG, end, b)?;
     at_end(e, end)
 }

@@ -14,12 +14,6 @@ pub struct Part {
 pub fn part_of(s: &[u8], start: usize, length: usize) -> &[u8]
     ensures { result.now ≡ take length (drop start s.now) }
 {
-    if s.len() <= start {
-        return &s[0..0];
-    }
-    if length <= s.len() - start {
-        let end = start + length;
-        return &s[start..end];
-    }
-    &s[start..]
+    let rest = &s[start.min(s.len())..];
+    rest.get(..length).unwrap_or(rest)
 }

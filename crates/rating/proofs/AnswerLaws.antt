@@ -1,14 +1,15 @@
 -- What holds of every answer to a question.
+use Rattle.std.specs.Prelude.{Option, None, Some}
 use Prim.Native.Nat.{ℕ, zero, suc, ◌+◌, ◌-◌, ◌%◌, ◌≤◌, ◌<◌}
 use mathlib.Core.Path.{◌≡◌, refl, subst}
 use mathlib.Core.Logic.{⊎_elim}
 use mathlib.Core.List.{List}
-use mathlib.Core.Option.{Option, none, some}
 use mathlib.Core.Bool.{Bool, true, false}
 use native.Mathlib.Nat.{eq-zero-or-pos}
 use native.Mathlib.Omega.{arith}
 use lib.Dec.{eqb}
 use borrow.Author.Tests.{eqb-true}
+use Rattle.std.specs.Prelude.{Option, None, Some}
 use Rattle.part.specs.declared.Part.{Part}
 use Rattle.bytes_at.specs.Fields.{byte_at}
 use Rattle.logic.specs.Choices.{pick, if_eq}
@@ -63,19 +64,19 @@ rating_below s region dimension end from v e =
 
 -- a text stands within the list
 abbrev Within : ℕ → Option Part → Type 0
-Within end (some t) = t.start + t.length ≤ end
-Within end none = record {}
+Within end (Some t) = t.start + t.length ≤ end
+Within end None = record {}
 
 within : (s : List ℕ) (end p : ℕ) → p + region_size s p ≤ end → Within end (region_text_at s p)
 unfolding region_size
 within s end p h = omega arith
 
-pub text_within : (s : List ℕ) (region end from : ℕ) (t : Part) → text_in s region end from ≡ some t → t.start + t.length ≤ end
+pub text_within : (s : List ℕ) (region end from : ℕ) (t : Part) → text_in s region end from ≡ Some t → t.start + t.length ≤ end
 unfolding text_in
 text_within s region end from t e =
     subst (Within end) e
-    (first_all (Within end) s _ end _ _ none (record {})
-    (λ a h x. first_all (Within end) s _ _ _ _ none (record {}) (λ p l y. within s end p (omega arith)) _ _)
+    (first_all (Within end) s _ end _ _ None (record {})
+    (λ a h x. first_all (Within end) s _ _ _ _ None (record {}) (λ p l y. within s end p (omega arith)) _ _)
     _ _)
 
 -- ---- a number that no byte has is absent

@@ -3,11 +3,10 @@ use Prim.Native.Nat.{ℕ, zero, suc, ◌+◌, ◌-◌, ◌*◌, ◌≤◌, ◌<�
 use mathlib.Core.Path.{◌≡◌, refl, sym, ap, ◌∙◌}
 use mathlib.Core.Logic.{◌↔◌, ⊎_elim}
 use mathlib.Core.List.{List, [], ◌∷◌}
-use mathlib.Core.Option.{none, some}
 use native.Mathlib.Nat.{eq-zero-or-pos}
 use native.Mathlib.Numerals.{sub-one}
 use native.Mathlib.Omega.{arith}
-use Rattle.bytes_at.specs.declared.Walk.TheVariants.{To}
+use Rattle.std.specs.Prelude.{Ok, None, Some}
 use Rattle.bytes_at.specs.Fields.{byte_at}
 use Rattle.bytes_at.specs.Walks.{many}
 use Rattle.bytes_at.proofs.WalkLaws.{to_is, then_to, then_inv, skipped, ended}
@@ -18,19 +17,19 @@ use Rattle.format.proofs.FieldLaws.{fields_end}
 use Rattle.format.proofs.RepeatLaws.{list_none, list_first}
 use Rattle.descriptor.specs.Descriptors.{content, descriptor, descriptors}
 use Rattle.rating.specs.Ratings.{descriptor_size, descriptor_at, descriptor_in}
-use Rattle.rating.specs.Values.{Descriptor}
+use Rattle.rating.specs.declared.Descriptor.{Descriptor}
 use Rattle.rating.proofs.FirstLaws.{none_past, descriptor_here, descriptor_next}
 
 -- ---- what may be missing
-some_is : {A : Type 0} {x y : A} → some x ≡ some y → x ≡ y
+some_is : {A : Type 0} {x y : A} → Some x ≡ Some y → x ≡ y
 some_is e = cc
 
-nothing_is : {A B : Type 0} {x : A} → none ≡ some x → B
+nothing_is : {A B : Type 0} {x : A} → None ≡ Some x → B
 nothing_is e = let z : ◌≡◌ {A = ℕ} 0 1 = cc in absurd (omega arith)
 
 -- ---- descriptors
 -- a descriptor takes its size, and stays within the list
-pub size_taken : (judged : ℕ) (s : List ℕ) (end at e : ℕ) → walks (descriptor judged) s end at ≡ To e
+pub size_taken : (judged : ℕ) (s : List ℕ) (end at e : ℕ) → walks (descriptor judged) s end at ≡ Ok e
     → (e ≡ at + descriptor_size s at) × (e ≤ end)
 unfolding descriptor descriptor_size
 size_taken judged s end at e w =
@@ -47,7 +46,7 @@ unfolding descriptor_size
 two s at = omega arith
 
 -- within a list, whether it is sound or not
-pub descriptor_within : (s : List ℕ) (end k at : ℕ) (d : Descriptor) → descriptor_in s end k at ≡ some d
+pub descriptor_within : (s : List ℕ) (end k at : ℕ) (d : Descriptor) → descriptor_in s end k at ≡ Some d
     → (at + 2 ≤ d.start) × (d.start + d.size ≤ end)
 unfolding descriptor_size
 descriptor_within s end zero at d e = ⊎_elim
@@ -67,42 +66,42 @@ descriptor_within s end (suc k) at d e = ⊎_elim
 -- a list that is accepted from `at` on, with f enough for its steps
 module _ (judged : ℕ) (s : List ℕ) (end : ℕ) where
   abbrev pub Sound : ℕ → ℕ → Type 0
-  Sound f at = (end ≤ at + f) × (unto (walks (descriptor judged) s) f end at ≡ To end)
+  Sound f at = (end ≤ at + f) × (unto (walks (descriptor judged) s) f end at ≡ Ok end)
 
   -- its first descriptor, and the rest
   pub sound_first : (f at : ℕ) → Sound f at → at < end
-      → (b : ℕ) × ((walks (descriptor judged) s end at ≡ To b) × (((b ≡ at + descriptor_size s at) × (b ≤ end)) × Sound (f - 1) b))
+      → (b : ℕ) × ((walks (descriptor judged) s end at ≡ Ok b) × (((b ≡ at + descriptor_size s at) × (b ≤ end)) × Sound (f - 1) b))
   sound_first f at g h =
       let p = then_inv _ _ end (list_first (walks (descriptor judged) s) f end at h g.0 ∙ g.1) in
       let t = size_taken judged s end at p.0 p.1.0 in
       (p.0, (p.1.0, (t, (omega (arith, two s at), p.1.1))))
 
   -- how many it has
-  count_from : (f at : ℕ) → Sound f at → (n : ℕ) × ((many (walks (descriptor judged) s end) n at ≡ To end) × (at + 2 * n ≤ end))
+  count_from : (f at : ℕ) → Sound f at → (n : ℕ) × ((many (walks (descriptor judged) s end) n at ≡ Ok end) × (at + 2 * n ≤ end))
   unfolding many
   count_from zero at g =
       let e = ended end at end (list_none (walks (descriptor judged) s) zero end at (omega arith) ∙ g.1) in
-      (0, (ap To e.0, omega arith))
+      (0, (ap Ok e.0, omega arith))
   count_from (suc f) at g = ⊎_elim
       (λ h.
       let e = ended end at end (list_none (walks (descriptor judged) s) (suc f) end at (omega arith) ∙ g.1) in
-      (0, (ap To e.0, omega arith)))
+      (0, (ap Ok e.0, omega arith)))
       (λ h.
       let p = sound_first (suc f) at g (omega arith) in
       let q = count_from f p.0 (rw sub-one at p.1.1.1) in
-      (suc q.0, (then_to _ (many (walks (descriptor judged) s end) q.0) p.0 (To end) p.1.0 q.1.0, omega (arith, two s at))))
+      (suc q.0, (then_to _ (many (walks (descriptor judged) s end) q.0) p.0 (Ok end) p.1.0 q.1.0, omega (arith, two s at))))
       (eq-zero-or-pos (end - at))
 
-  pub counted : (from : ℕ) → walks_all (descriptors judged) s end from ≡ To end
-      → (n : ℕ) × ((many (walks (descriptor judged) s end) n from ≡ To end) × (from + 2 * n ≤ end))
+  pub counted : (from : ℕ) → walks_all (descriptors judged) s end from ≡ Ok end
+      → (n : ℕ) × ((many (walks (descriptor judged) s end) n from ≡ Ok end) × (from + 2 * n ≤ end))
   unfolding descriptors
   counted from w = count_from end from (omega arith, w)
 
   -- where the walk of k descriptors stands, d does
   abbrev There : ℕ → ℕ → Descriptor → Type 0
-  There k at d = (a : ℕ) × ((a < end) × ((many (walks (descriptor judged) s end) k at ≡ To a) × (d ≡ descriptor_at s a)))
+  There k at d = (a : ℕ) × ((a < end) × ((many (walks (descriptor judged) s end) k at ≡ Ok a) × (d ≡ descriptor_at s a)))
 
-  there : (k f at : ℕ) (d : Descriptor) → Sound f at → at < end → descriptor_in s end k at ≡ some d → There k at d
+  there : (k f at : ℕ) (d : Descriptor) → Sound f at → at < end → descriptor_in s end k at ≡ Some d → There k at d
   unfolding many
   there zero f at d g h e =
       let p = sound_first f at g h in
@@ -110,18 +109,18 @@ module _ (judged : ℕ) (s : List ℕ) (end : ℕ) where
   there (suc k) f at d g h e =
       let p = sound_first f at g h in
       let x = descriptor_next s end at (descriptor_size s at) refl (suc k) (λ z. omega arith) (omega arith) ∙ e in
-      let y : descriptor_in s end k p.0 ≡ some d = rw (sub-one, ← p.1.1.0.0) at x in
+      let y : descriptor_in s end k p.0 ≡ Some d = rw (sub-one, ← p.1.1.0.0) at x in
       let l = descriptor_within s end k p.0 d y in
       let q = there k (f - 1) p.0 d p.1.1.1 (omega arith) y in
-      (q.0, (q.1.0, (then_to _ (many (walks (descriptor judged) s end) k) p.0 (To q.0) p.1.0 q.1.1.0, q.1.1.1)))
+      (q.0, (q.1.0, (then_to _ (many (walks (descriptor judged) s end) k) p.0 (Ok q.0) p.1.0 q.1.1.0, q.1.1.1)))
 
-  back : (k f at : ℕ) (d : Descriptor) → Sound f at → There k at d → descriptor_in s end k at ≡ some d
+  back : (k f at : ℕ) (d : Descriptor) → Sound f at → There k at d → descriptor_in s end k at ≡ Some d
   unfolding many
   back zero f at d g q =
       let a = to_is at q.0 q.1.1.0 in
       let h : at < end = omega (arith, q.1.0) in
       let p = sound_first f at g h in
-      sym (descriptor_here s end at _ refl 0 refl (omega arith)) ∙ ap (λ a. some (descriptor_at s a)) (sym a) ∙ ap some (sym q.1.1.1)
+      sym (descriptor_here s end at _ refl 0 refl (omega arith)) ∙ ap (λ a. Some (descriptor_at s a)) (sym a) ∙ ap Some (sym q.1.1.1)
   back (suc k) f at d g q =
       let w = then_inv _ _ q.0 q.1.1.0 in
       let t = size_taken judged s end at w.0 w.1.0 in
@@ -132,9 +131,9 @@ module _ (judged : ℕ) (s : List ℕ) (end : ℕ) where
       ∙ rw (sub-one, ← p.1.1.0.0) y
 
   -- in a list that the walk accepts, descriptor k is exactly what stands where the walk of k descriptors does
-  pub descriptor_exactly : (from : ℕ) → walks_all (descriptors judged) s end from ≡ To end → (k : ℕ) (d : Descriptor)
-      → (descriptor_in s end k from ≡ some d)
-      ↔ ((a : ℕ) × ((a < end) × ((many (walks (descriptor judged) s end) k from ≡ To a) × (d ≡ descriptor_at s a))))
+  pub descriptor_exactly : (from : ℕ) → walks_all (descriptors judged) s end from ≡ Ok end → (k : ℕ) (d : Descriptor)
+      → (descriptor_in s end k from ≡ Some d)
+      ↔ ((a : ℕ) × ((a < end) × ((many (walks (descriptor judged) s end) k from ≡ Ok a) × (d ≡ descriptor_at s a))))
   unfolding descriptors
   descriptor_exactly from w k d =
       let g : Sound end from = (omega arith, w) in (

@@ -3,11 +3,11 @@ use Prim.Native.Nat.{ℕ, zero, suc, ◌+◌, ◌-◌, ◌*◌, ◌≤◌, ◌<�
 use mathlib.Core.Path.{◌≡◌, refl, sym, ◌∙◌}
 use mathlib.Core.Logic.{⊎_elim}
 use mathlib.Core.List.{List}
-use mathlib.Core.Option.{none, some}
 use native.Mathlib.Nat.{eq-zero-or-pos}
 use native.Mathlib.Numerals.{sub-one}
 use native.Mathlib.Omega.{arith}
 use lib.ListN.{length}
+use Rattle.std.specs.Prelude.{None, Some}
 use Rattle.bytes_at.specs.Fields.{byte_at}
 use Rattle.logic.proofs.ChoiceLaws.{lt_yes, lt_no, eq_yes, eq_no}
 use Rattle.bytes_at.proofs.FieldLaws.{past}
@@ -55,12 +55,12 @@ module _ {A : Type 0} (s : List ℕ) (size : ℕ → ℕ) (end at x : ℕ) (told
 
 -- the same for the descriptor of a number
 module _ (s : List ℕ) (end at k : ℕ) (sized : k ≡ descriptor_size s at) where
-  pub none_past : (n : ℕ) → end < at + k → none ≡ descriptor_in s end n at
+  pub none_past : (n : ℕ) → end < at + k → None ≡ descriptor_in s end n at
   unfolding descriptor_in
   none_past zero h = lt_yes _ _ _ _ (omega arith) refl
   none_past (suc n) h = lt_yes _ _ _ _ (omega arith) refl
 
-  pub descriptor_here : (n : ℕ) → n ≡ 0 → at + k ≤ end → some (descriptor_at s at) ≡ descriptor_in s end n at
+  pub descriptor_here : (n : ℕ) → n ≡ 0 → at + k ≤ end → Some (descriptor_at s at) ≡ descriptor_in s end n at
   unfolding descriptor_in
   descriptor_here n e h = rw e (lt_no _ _ _ _ (omega arith) refl)
 

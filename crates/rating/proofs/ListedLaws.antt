@@ -27,18 +27,18 @@ module _ {A B : Type 0} (R : A → B → Type 0) where
   eq_alike x y a b c d p q = pick_alike (eqb x y) a b c d (λ e. p (eqb-true x y e)) q
 
 -- values that are not empty are no more than their bytes
-pub no_more : {X : Type 0} (Ok : X → Type 0) (enc : X → List ℕ) → ((x : X) → Ok x → 0 < length (enc x)) → (xs : List X) → All Ok xs
+pub no_more : {X : Type 0} (Formed : X → Type 0) (enc : X → List ℕ) → ((x : X) → Formed x → 0 < length (enc x)) → (xs : List X) → All Formed xs
     → length xs ≤ length (encs enc xs)
-no_more Ok enc full [] g = omega arith
-no_more Ok enc full (x ∷ xs) g = omega (arith, full x g.0, length-append (enc x) (encs enc xs), no_more Ok enc full xs g.1)
+no_more Formed enc full [] g = omega arith
+no_more Formed enc full (x ∷ xs) g = omega (arith, full x g.0, length-append (enc x) (encs enc xs), no_more Formed enc full xs g.1)
 
-module _ {X : Type 0} (Ok : X → Type 0) (enc : X → List ℕ) (key : X → ℕ) (s : List ℕ) (n : ℕ) where
+module _ {X : Type 0} (Formed : X → Type 0) (enc : X → List ℕ) (key : X → ℕ) (s : List ℕ) (n : ℕ) where
   -- what is told of a place is what is said of the value there: so it is of the first whose key is n, if nothing is found behind
   -- the values
   module _ {A : Type 0} (size : ℕ → ℕ) (end : ℕ) (told : ℕ → A) (says : ℕ → X → A) (absent : A)
-      (there : (a : ℕ) (x : X) → Ok x → Lies (enc x) s a
+      (there : (a : ℕ) (x : X) → Formed x → Lies (enc x) s a
       → (size a ≡ length (enc x)) × ((byte_at s a ≡ key x) × (key x ≡ n → told a ≡ says a x))) where
-    pub first_there : (m k at : ℕ) (xs : List X) → k ≡ length xs + m → All Ok xs → Lies (encs enc xs) s at → at + length (encs enc xs) ≤ end
+    pub first_there : (m k at : ℕ) (xs : List X) → k ≡ length xs + m → All Formed xs → Lies (encs enc xs) s at → at + length (encs enc xs) ≤ end
         → first_match s size m end (at + length (encs enc xs)) n told absent ≡ absent
         → first_match s size k end at n told absent ≡ first_with enc key n says absent at xs
     unfolding first_match first_with
@@ -59,8 +59,8 @@ module _ {X : Type 0} (Ok : X → Type 0) (enc : X → List ℕ) (key : X → �
 
   -- what is said of a value with its place and what is said without it are alike: so they are of the first whose key is n
   module _ {A B : Type 0} (R : A → B → Type 0) (says : ℕ → X → A) (absent : A) (plain : X → B) (missing : B) (of_none : R absent missing)
-      (of_one : (a : ℕ) (x : X) → Ok x → Lies (enc x) s a → R (says a x) (plain x)) where
-    pub sought_there : (at : ℕ) (xs : List X) → All Ok xs → Lies (encs enc xs) s at
+      (of_one : (a : ℕ) (x : X) → Formed x → Lies (enc x) s a → R (says a x) (plain x)) where
+    pub sought_there : (at : ℕ) (xs : List X) → All Formed xs → Lies (encs enc xs) s at
         → R (first_with enc key n says absent at xs) (sought key n plain missing xs)
     unfolding first_with sought
     sought_there at [] g l = of_none

@@ -5,11 +5,10 @@ use mathlib.Core.Path.{◌≡◌, refl, sym, ap, ◌∙◌}
 use mathlib.Core.List.{List, [], ◌∷◌}
 use native.Mathlib.Numerals.{sub-one}
 use native.Mathlib.Omega.{arith}
-use Rattle.bytes_at.specs.declared.Walk.{Walk}
-use Rattle.bytes_at.specs.declared.Walk.TheVariants.{To}
+use Rattle.std.specs.Prelude.{Ok}
 use Rattle.bytes_at.specs.Fields.{byte_at}
 use Rattle.logic.specs.Choices.{if_lt, if_eq}
-use Rattle.bytes_at.specs.Walks.{fields_to, many}
+use Rattle.bytes_at.specs.Walks.{fields_to, many, Walk}
 use Rattle.bytes_at.proofs.WalkLaws.{to_is, then_to, then_inv, skipped}
 use Rattle.format.proofs.KeptLaws.{laws}
 use Rattle.format.specs.Formats.{walks, walks_all}
@@ -23,7 +22,7 @@ use Rattle.rating.proofs.DescriptorLaws.{size_taken, two, counted}
 
 -- what is walked past n is walked past each of them
 module _ (p : ℕ → Walk) where
-  passed : (n k at a e : ℕ) → k < n → many p n at ≡ To e → many p k at ≡ To a → (b : ℕ) × (p a ≡ To b)
+  passed : (n k at a e : ℕ) → k < n → many p n at ≡ Ok e → many p k at ≡ Ok a → (b : ℕ) × (p a ≡ Ok b)
   unfolding many
   passed zero k at a e h m r = absurd (omega arith)
   passed (suc n) zero at a e h m r =
@@ -36,9 +35,9 @@ module _ (p : ℕ → Walk) where
       passed n k q.0 a e (omega arith) q.1.1 (ap (many p k) (sym c) ∙ u.1.1)
 
 -- a walk that takes each thing's size
-module _ (p : ℕ → Walk) (size : ℕ → ℕ) (end : ℕ) (takes : (at e : ℕ) → p at ≡ To e → (e ≡ at + size at) × (e ≤ end)) where
+module _ (p : ℕ → Walk) (size : ℕ → ℕ) (end : ℕ) (takes : (at e : ℕ) → p at ≡ Ok e → (e ≡ at + size at) × (e ≤ end)) where
   -- where n come to the end, and k do not, k are fewer
-  fewer : ((at : ℕ) → 0 < size at) → (n k at a : ℕ) → many p n at ≡ To end → many p k at ≡ To a → a < end → k < n
+  fewer : ((at : ℕ) → 0 < size at) → (n k at a : ℕ) → many p n at ≡ Ok end → many p k at ≡ Ok a → a < end → k < n
   unfolding many
   fewer some zero zero at a m r h = absurd (omega (arith, to_is at end m, to_is at a r))
   fewer some zero (suc k) at a m r h =
@@ -55,22 +54,22 @@ module _ (p : ℕ → Walk) (size : ℕ → ℕ) (end : ℕ) (takes : (at e : �
   module _ (s : List ℕ) (x : ℕ) where
     -- none of the first n begins with x
     abbrev None : ℕ → ℕ → Type 0
-    None n at = (i a : ℕ) → i < n → many p i at ≡ To a → byte_at s a ≡ x → ⊥
+    None n at = (i a : ℕ) → i < n → many p i at ≡ Ok a → byte_at s a ≡ x → ⊥
 
-    none_next : (n at b : ℕ) → p at ≡ To b → None (suc n) at → None n b
+    none_next : (n at b : ℕ) → p at ≡ Ok b → None (suc n) at → None n b
     unfolding many
-    none_next n at b e none_here i a h m = none_here (suc i) a (omega arith) (then_to _ (many p i) b (To a) e m)
+    none_next n at b e none_here i a h m = none_here (suc i) a (omega arith) (then_to _ (many p i) b (Ok a) e m)
 
     module _ {A : Type 0} (told : ℕ → A) (absent : A) where
       -- past one that is another
-      first_rest : (n at b : ℕ) → 0 < n → p at ≡ To b → (byte_at s at ≡ x → ⊥)
+      first_rest : (n at b : ℕ) → 0 < n → p at ≡ Ok b → (byte_at s at ≡ x → ⊥)
           → first_match s size n end at x told absent ≡ first_match s size (n - 1) end b x told absent
       first_rest n at b h w other =
           let t = takes at b w in
           sym (first_next s size end at x told absent _ refl _ refl (omega arith) n h other)
           ∙ ap (λ c. first_match s size (n - 1) end c x told absent) (sym t.0)
 
-      first_is : (n k at a e : ℕ) → many p n at ≡ To e → k < n → many p k at ≡ To a → byte_at s a ≡ x → None k at
+      first_is : (n k at a e : ℕ) → many p n at ≡ Ok e → k < n → many p k at ≡ Ok a → byte_at s a ≡ x → None k at
           → first_match s size n end at x told absent ≡ told a
       unfolding many
       first_is n zero at a e m h r b none_before =
@@ -88,7 +87,7 @@ module _ (p : ℕ → Walk) (size : ℕ → ℕ) (end : ℕ) (takes : (at e : �
           (first_is n k q.0 a e q.1.1 (omega arith) (ap (many p k) (sym c) ∙ u.1.1) b
           (none_next k at q.0 q.1.0 none_before))
 
-      first_not : (n at e : ℕ) → many p n at ≡ To e → None n at → first_match s size n end at x told absent ≡ absent
+      first_not : (n at e : ℕ) → many p n at ≡ Ok e → None n at → first_match s size n end at x told absent ≡ absent
       unfolding many
       first_not zero at e m none_here = sym (first_none s size end at x told absent 0 refl)
       first_not (suc n) at e m none_here =
@@ -97,7 +96,7 @@ module _ (p : ℕ → Walk) (size : ℕ → ℕ) (end : ℕ) (takes : (at e : �
           ∙ rw sub-one (first_not n q.0 e q.1.1 (none_next n at q.0 q.1.0 none_here))
 
       -- where n come to the end, more are no more
-      first_more : ((at : ℕ) → 0 < size at) → (n m at : ℕ) → many p n at ≡ To end → n ≤ m
+      first_more : ((at : ℕ) → 0 < size at) → (n m at : ℕ) → many p n at ≡ Ok end → n ≤ m
           → first_match s size m end at x told absent ≡ first_match s size n end at x told absent
       unfolding many first_match
       first_more some_size zero m at w h =
@@ -119,10 +118,10 @@ module _ (s : List ℕ) (p number : ℕ) {A : Type 0} (told : ℕ → A) (absent
   walk a = fields_to (8 ∷ 8 ∷ []) a (p + region_size s p)
 
   -- past k dimensions
-  past_some : (k : ℕ) → k ≤ byte_at s (p + 1) → many walk k (p + 2) ≡ To (p + 2 + 2 * k)
+  past_some : (k : ℕ) → k ≤ byte_at s (p + 1) → many walk k (p + 2) ≡ Ok (p + 2 + 2 * k)
   past_some k h = sym (run_fits 2 (p + region_size s p) k (p + 2) (omega (arith, dimensions_fit s p _ refl)))
 
-  takes_two : (at e : ℕ) → walk at ≡ To e → (e ≡ at + 2) × (e ≤ p + region_size s p)
+  takes_two : (at e : ℕ) → walk at ≡ Ok e → (e ≡ at + 2) × (e ≤ p + region_size s p)
   takes_two at = fields_end 8 (8 ∷ []) 2 refl at (p + region_size s p)
 
   pub dimension_is : (k : ℕ) → k < byte_at s (p + 1) → byte_at s (p + 2 + 2 * k) ≡ number
@@ -139,7 +138,7 @@ module _ (s : List ℕ) (p number : ℕ) {A : Type 0} (told : ℕ → A) (absent
 
 -- ---- regions
 -- dimensions take two bytes each
-dimensions_taken : (end n at e : ℕ) → many (λ a. fields_to (8 ∷ 8 ∷ []) a end) n at ≡ To e → e ≡ at + 2 * n
+dimensions_taken : (end n at e : ℕ) → many (λ a. fields_to (8 ∷ 8 ∷ []) a end) n at ≡ Ok e → e ≡ at + 2 * n
 unfolding many
 dimensions_taken end zero at e m = to_is at e m ∙ omega arith
 dimensions_taken end (suc n) at e m =
@@ -148,7 +147,7 @@ dimensions_taken end (suc n) at e m =
     omega (arith, dimensions_taken end n q.0 e q.1.1)
 
 -- a region's text stands behind its dimensions
-pub text_behind : (s : List ℕ) (end at e : ℕ) → walks region s end at ≡ To e → walks sized_text s end (at + rated_size s at) ≡ To e
+pub text_behind : (s : List ℕ) (end at e : ℕ) → walks region s end at ≡ Ok e → walks sized_text s end (at + rated_size s at) ≡ Ok e
 unfolding region rated dimension rated_size
 text_behind s end at e w =
     let p = then_inv _ _ e w in
@@ -159,7 +158,7 @@ text_behind s end at e w =
     let m : at + (2 + 2 * byte_at s (at + 1)) ≡ p.0 = omega arith in
     ap (walks sized_text s end) m ∙ p.1.1
 
-pub region_taken : (s : List ℕ) (end at e : ℕ) → walks region s end at ≡ To e → (e ≡ at + region_size s at) × (e ≤ end)
+pub region_taken : (s : List ℕ) (end at e : ℕ) → walks region s end at ≡ Ok e → (e ≡ at + region_size s at) × (e ≤ end)
 unfolding sized_text region_size
 region_taken s end at e w =
     let u = then_inv _ _ e (text_behind s end at e w) in
@@ -174,7 +173,7 @@ region_taken s end at e w =
 module _ (s : List ℕ) (a number : ℕ) {A : Type 0} (told : ℕ → A) (absent : A) where
   -- past k regions the walk comes to p
   abbrev Regions : ℕ → ℕ → Type 0
-  Regions k p = many (walks region s (a + descriptor_size s a)) k (a + 3) ≡ To p
+  Regions k p = many (walks region s (a + descriptor_size s a)) k (a + 3) ≡ Ok p
 
   module _ (e : ℕ) (walked : Regions (byte_at s (a + 2) % 64) e) where
     pub region_is : (k p : ℕ) → k < byte_at s (a + 2) % 64 → Regions k p → byte_at s p ≡ number
@@ -188,11 +187,11 @@ module _ (s : List ℕ) (a number : ℕ) {A : Type 0} (told : ℕ → A) (absent
 
 -- ---- descriptors
 -- of a list that the walk accepts, the first content advisory is told, and where none is one it is absent
-module _ (judged : ℕ) (s : List ℕ) (end from : ℕ) (accepted : walks_all (descriptors judged) s end from ≡ To end)
+module _ (judged : ℕ) (s : List ℕ) (end from : ℕ) (accepted : walks_all (descriptors judged) s end from ≡ Ok end)
     {A : Type 0} (told : ℕ → A) (absent : A) where
   -- past k descriptors the walk comes to a
   abbrev Descriptors : ℕ → ℕ → Type 0
-  Descriptors k a = many (walks (descriptor judged) s end) k from ≡ To a
+  Descriptors k a = many (walks (descriptor judged) s end) k from ≡ Ok a
 
   -- as many steps as the list has descriptors are enough
   enough : (n : ℕ) → Descriptors n end → from + 2 * n ≤ end

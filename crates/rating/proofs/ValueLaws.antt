@@ -23,7 +23,7 @@ use Rattle.rating.proofs.DescriptorLaws.{size_taken}
 use Rattle.rating.proofs.MatchLaws.{region_taken}
 
 -- ---- ratings
-module _ (s : List ℕ) (z : Bytes s) (q : ℕ) (x : dimension.Val) (o : dimension.Ok (record {}) x) (l : Lies (dimension.enc x) s q) where
+module _ (s : List ℕ) (z : Bytes s) (q : ℕ) (x : dimension.Val) (o : dimension.Formed (record {}) x) (l : Lies (dimension.enc x) s q) where
   pub rating_values : unfold dimension in ((byte_at s q ≡ x.dimension) × (byte_at s (q + 1) % 16 ≡ x.value))
   unfolding dimension
   rating_values =
@@ -40,7 +40,7 @@ ratings_length (x ∷ xs) =
     omega (arith, length-append (dimension.enc x) (encs dimension.enc xs), ratings_length xs)
 
 -- ---- regions
-module _ (s : List ℕ) (z : Bytes s) (p : ℕ) (g : region.Val) (o : region.Ok (record {}) g) (l : Lies (region.enc g) s p) where
+module _ (s : List ℕ) (z : Bytes s) (p : ℕ) (g : region.Val) (o : region.Formed (record {}) g) (l : Lies (region.enc g) s p) where
   -- its number, its ratings, and its text behind them
   pub region_values : unfold region dimension in (((byte_at s p ≡ g.region) × (byte_at s (p + 1) ≡ length g.ratings))
       × Lies (encs dimension.enc g.ratings) s (p + 2))
@@ -74,7 +74,7 @@ module _ (s : List ℕ) (z : Bytes s) (p : ℕ) (g : region.Val) (o : region.Ok 
       omega (arith, (region_taken s e p e ((region.law laws (record {})).sound s e p g o l (omega arith))).0)
 
 -- ---- descriptors
-module _ (judged : ℕ) (s : List ℕ) (z : Bytes s) (a : ℕ) (d : (descriptor judged).Val) (o : (descriptor judged).Ok (record {}) d)
+module _ (judged : ℕ) (s : List ℕ) (z : Bytes s) (a : ℕ) (d : (descriptor judged).Val) (o : (descriptor judged).Formed (record {}) d)
     (l : Lies ((descriptor judged).enc d) s a) where
   pub descriptor_size_lem : descriptor_size s a ≡ length ((descriptor judged).enc d)
   descriptor_size_lem =
@@ -104,7 +104,7 @@ advisory_length v =
     let b : length h ≡ 1 = bytes_length 1 _ in
     omega (arith, length-append h (encs region.enc v.regions))
 
-module _ (s : List ℕ) (z : Bytes s) (a : ℕ) (v : advisory.Val) (o : advisory.Ok (record {}) v) (l : Lies (advisory.enc v) s (a + 2)) where
+module _ (s : List ℕ) (z : Bytes s) (a : ℕ) (v : advisory.Val) (o : advisory.Formed (record {}) v) (l : Lies (advisory.enc v) s (a + 2)) where
   pub advisory_values : unfold advisory region in ((byte_at s (a + 2) % 64 ≡ length v.regions) × Lies (encs region.enc v.regions) s (a + 3))
   unfolding advisory region
   advisory_values =

@@ -1,33 +1,21 @@
 -- SCOPE 3.3 and 3.4: the rating question, and what else is asked of a descriptor list. Places are offsets of
 -- the whole section s; the list stands from `from` to `end`.
-use Rattle.std.specs.Prelude.{ℕ, zero, suc, ◌+◌, ◌*◌, ◌%◌, List}
-use Rattle.std.proofs.Math.Option.{Option, none, some}
+use Rattle.std.specs.Prelude.{ℕ, zero, suc, ◌+◌, ◌*◌, ◌%◌, List, Option, None, Some}
 use Rattle.part.specs.declared.Part.{Part}
 use Rattle.bytes_at.specs.Fields.{byte_at}
 use Rattle.logic.specs.Choices.{if_lt, if_eq}
 use Rattle.descriptor.specs.Descriptors.{content_advisory}
+use Rattle.rating.specs.declared.Descriptor.{Descriptor}
 use Rattle.rating.specs.declared.Rating.{Rating}
 use Rattle.rating.specs.declared.Rating.TheVariants.{NoAdvisory, RegionAbsent, DimensionAbsent, Value}
-use Rattle.rating.specs.declared.SoughtDescriptor.{SoughtDescriptor}
-use Rattle.rating.specs.declared.SoughtDescriptor.TheVariants as found
-use Rattle.rating.specs.declared.SoughtText.{SoughtText}
-use Rattle.rating.specs.declared.SoughtText.TheVariants as part
-use Rattle.rating.specs.Values.{Rated, no_advisory, region_absent, dimension_absent, value, Descriptor}
+use Rattle.rating.specs.Values.{Rated, no_advisory, region_absent, dimension_absent, value}
 
--- ---- what the code's answers mean
+-- ---- what the code's answer to a rating question means
 abbrev pub rated_of : Rating → Rated
 rated_of NoAdvisory = no_advisory
 rated_of RegionAbsent = region_absent
 rated_of DimensionAbsent = dimension_absent
 rated_of (Value v) = value v
-
-abbrev pub sought_descriptor : SoughtDescriptor → Option Descriptor
-sought_descriptor (found.Is t a n) = some (record { tag = t; start = a; size = n })
-sought_descriptor found.Nothing = none
-
-abbrev pub sought_text : SoughtText → Option Part
-sought_text (part.Is a n) = some (record { start = a; length = n })
-sought_text part.Nothing = none
 
 -- ---- how many bytes a thing takes
 -- a descriptor: tag 8, length 8, that many bytes
@@ -77,11 +65,11 @@ rating_in s region dimension end from = advisory_in s end from (rated_by_advisor
 
 -- the text of the region at p
 abbrev pub region_text_at : List ℕ → ℕ → Option Part
-region_text_at s p = some (record { start = p + rated_size s p + 1; length = byte_at s (p + rated_size s p) })
+region_text_at s p = Some (record { start = p + rated_size s p + 1; length = byte_at s (p + rated_size s p) })
 
 -- the text of the first such region in the first content advisory
 unfoldable pub text_in : List ℕ → ℕ → ℕ → ℕ → Option Part
-text_in s region end from = advisory_in s end from (λ a. region_in s region a (region_text_at s) none) none
+text_in s region end from = advisory_in s end from (λ a. region_in s region a (region_text_at s) None) None
 
 -- the descriptor at a place
 abbrev pub descriptor_at : List ℕ → ℕ → Descriptor
@@ -89,5 +77,5 @@ descriptor_at s at = record { tag = byte_at s at; start = at + 2; size = byte_at
 
 -- descriptor number k, counted from 0; one that does not lie within the list is none
 unfoldable pub descriptor_in : List ℕ → ℕ → ℕ → ℕ → Option Descriptor
-descriptor_in s end zero at = if_lt end (at + descriptor_size s at) none (some (descriptor_at s at))
-descriptor_in s end (suc k) at = if_lt end (at + descriptor_size s at) none (descriptor_in s end k (at + descriptor_size s at))
+descriptor_in s end zero at = if_lt end (at + descriptor_size s at) None (Some (descriptor_at s at))
+descriptor_in s end (suc k) at = if_lt end (at + descriptor_size s at) None (descriptor_in s end k (at + descriptor_size s at))

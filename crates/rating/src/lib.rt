@@ -3,13 +3,14 @@
 // list is not there.
 #![tactic(auto)]
 
-ghost use Rattle.std.specs.Prelude.{◌≡◌, ◌+◌, ◌-◌, ◌<◌, ◌≤◌};
-ghost use Rattle.std.proofs.Math.Option.{none};
+ghost use Rattle.std.specs.Prelude.{None, ◌≡◌, ◌+◌, ◌-◌, ◌<◌, ◌≤◌};
+ghost use Rattle.std.specs.Option.{SomeIff};
 ghost use Rattle.bytes_at.specs.Fields.{byte_at};
-ghost use Rattle.rating.specs.Ratings.{descriptor_size, rated_size, region_size, first_match, rated_of, rating_in, sought_descriptor, descriptor_in, sought_text, region_text_at, text_in};
+ghost use Rattle.rating.specs.Ratings.{descriptor_size, rated_size, region_size, first_match, rated_of, rating_in, descriptor_in, region_text_at, text_in};
 
 use bytes_at::byte;
 use descriptor::CONTENT_ADVISORY;
+use part::Part;
 
 // What a rating question answers. Absent is not 0.
 #[derive(Clone, Copy)]
@@ -20,40 +21,31 @@ pub enum Rating {
     Value(usize),
 }
 
-// A descriptor, by its tag and the place of its content.
+// A descriptor's tag, and where its content stands.
 #[derive(Clone, Copy)]
-pub enum SoughtDescriptor {
-    Is {
-        tag: usize,
-        start: usize,
-        size: usize,
-    },
-    Nothing,
-}
-
-// Where a text stands.
-#[derive(Clone, Copy)]
-pub enum SoughtText {
-    Is { start: usize, size: usize },
-    Nothing,
+pub struct Descriptor {
+    pub tag: usize,
+    pub start: usize,
+    pub size: usize,
 }
 
 // The byte k after a place.
 fn ahead(s: &[u8], at: usize, k: usize) -> usize
     ensures { (result ≡ byte_at s.now (at + k)) × (result < 256) }
 {
-    if room(at, s.len()) <= k {
+    if s.len().saturating_sub(at) <= k {
         0
     } else {
         byte(s, at + k)
     }
 }
 
-// The bytes from a place to an end.
-fn room(at: usize, end: usize) -> usize
-    ensures { result ≡ end - at }
+// Where `size` bytes from a place on end, if that is by `end`.
+fn behind(at: usize, size: usize, end: usize) -> Option<usize>
+    ensures { SomeIff result (at + size ≤ end) (at + size) }
 {
-    if at <= end { end - at } else { 0 }
+    let next = at.checked_add(size)?;
+    if next <= end { Some(next) } else { None }
 }
 
 fn descriptor_size(s: &[u8], at: usize) -> usize
@@ -83,100 +75,79 @@ pub fn rating_in(s: &[u8], region: usize, dimension: usize, end: usize, from: us
 {
     let mut at = from;
     'search: loop {
-        let size = descriptor_size(s, at);
-        if room(at, end) < size {
+        let Some(close) = behind(at, descriptor_size(s, at), end) else {
             break 'search Rating::NoAdvisory;
-        }
+        };
         if byte(s, at) == CONTENT_ADVISORY {
-            let close = at + size;
-            let mut regions = ahead(s, at, 2) % 64;
+            let regions = ahead(s, at, 2) % 64;
             let mut p = at + 3;
-            while 0 < regions {
-                let taken = region_size(s, p);
-                if room(p, close) < taken {
+            for _ in 0..regions {
+                let Some(next) = behind(p, region_size(s, p), close) else {
                     break;
-                }
+                };
                 if byte(s, p) == region {
-                    let mut dimensions = byte(s, p + 1);
-                    let mut q = p + 2;
-                    while 0 < dimensions {
+                    let dimensions = byte(s, p + 1);
+                    for i in 0..dimensions {
+                        let q = p + 2 + 2 * i;
                         if byte(s, q) == dimension {
                             break 'search Rating::Value(byte(s, q + 1) % 16);
                         }
-                        q += 2;
-                        dimensions -= 1;
                     }
                     break 'search Rating::DimensionAbsent;
                 }
-                p += taken;
-                regions -= 1;
+                p = next;
             }
             break 'search Rating::RegionAbsent;
         }
-        at += size;
+        at = close;
     }
 }
 
 // Descriptor number k, counted from 0.
-pub fn descriptor_in(s: &[u8], end: usize, from: usize, k: usize) -> SoughtDescriptor
-    ensures { sought_descriptor result ≡ descriptor_in s.now end k from }
+pub fn descriptor_in(s: &[u8], end: usize, from: usize, k: usize) -> Option<Descriptor>
+    ensures { result ≡ descriptor_in s.now end k from }
 {
     let mut at = from;
-    let mut left = k;
-    loop {
-        let size = descriptor_size(s, at);
-        if room(at, end) < size {
-            return SoughtDescriptor::Nothing;
-        }
-        if left == 0 {
-            return SoughtDescriptor::Is {
-                tag: byte(s, at),
-                start: at + 2,
-                size: byte(s, at + 1),
-            };
-        }
-        at += size;
-        left -= 1;
+    for _ in 0..k {
+        at = behind(at, descriptor_size(s, at), end)?;
     }
+    behind(at, descriptor_size(s, at), end)?;
+    Some(Descriptor {
+        tag: byte(s, at),
+        start: at + 2,
+        size: byte(s, at + 1),
+    })
 }
 
 // The text of the first such region of n from a place, which are to end at `close`.
-fn text_of_first(s: &[u8], region: usize, n: usize, close: usize, from: usize) -> SoughtText
-    ensures { sought_text result ≡ first_match s.now (region_size s.now) n close from region (region_text_at s.now) none }
+fn text_of_first(s: &[u8], region: usize, n: usize, close: usize, from: usize) -> Option<Part>
+    ensures { result ≡ first_match s.now (region_size s.now) n close from region (region_text_at s.now) None }
 {
     let mut at = from;
-    let mut left = n;
-    while 0 < left {
-        let size = region_size(s, at);
-        if room(at, close) < size {
-            return SoughtText::Nothing;
-        }
+    for _ in 0..n {
+        let next = behind(at, region_size(s, at), close)?;
         if byte(s, at) == region {
             let rated = rated_size(s, at);
-            return SoughtText::Is {
+            return Some(Part {
                 start: at + rated + 1,
-                size: ahead(s, at, rated),
-            };
+                length: ahead(s, at, rated),
+            });
         }
-        at += size;
-        left -= 1;
+        at = next;
     }
-    SoughtText::Nothing
+    None
 }
 
 // The text of the first such region in the first content advisory.
-pub fn advisory_text_in(s: &[u8], region: usize, end: usize, from: usize) -> SoughtText
-    ensures { sought_text result ≡ text_in s.now region end from }
+pub fn advisory_text_in(s: &[u8], region: usize, end: usize, from: usize) -> Option<Part>
+    ensures { result ≡ text_in s.now region end from }
 {
     let mut at = from;
     loop {
-        let size = descriptor_size(s, at);
-        if room(at, end) < size {
-            return SoughtText::Nothing;
-        }
+        let close = behind(at, descriptor_size(s, at), end)?;
         if byte(s, at) == CONTENT_ADVISORY {
-            return text_of_first(s, region, ahead(s, at, 2) % 64, at + size, at + 3);
+            return text_of_first(s, region, ahead(s, at, 2) % 64, close, at + 3);
         }
-        at += size;
+        at = close;
     }
 }

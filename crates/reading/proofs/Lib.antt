@@ -1,2 +1,1 @@
 pub mod WithinLaws
-pub mod OnceLaws

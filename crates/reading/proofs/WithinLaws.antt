@@ -1,8 +1,8 @@
 -- The parts that are answered of an event and of an ETT lie within the section, so that the bytes handed back for them are all there.
+use Rattle.std.specs.Prelude.{Some}
 use Prim.Native.Nat.{ℕ, ◌+◌, ◌-◌, ◌≤◌}
 use mathlib.Core.Path.{◌≡◌}
 use mathlib.Core.List.{List}
-use mathlib.Core.Option.{some}
 use native.Mathlib.Omega.{arith}
 use lib.ListN.{length, take, drop, length-drop}
 use lib.Seq.{length-take-le}
@@ -13,7 +13,7 @@ use Rattle.kind.specs.declared.Kind.TheVariants.{Ett}
 use Rattle.kind.specs.Kinds.{limits_of, only_of}
 use Rattle.format.specs.Formats.{walks}
 use Rattle.part.specs.Parts.{end_of, bytes_in}
-use Rattle.rating.specs.Values.{Descriptor}
+use Rattle.rating.specs.declared.Descriptor.{Descriptor}
 use Rattle.rating.proofs.DescriptorLaws.{descriptor_within}
 use Rattle.rating.proofs.AnswerLaws.{text_within}
 use Rattle.eit.specs.Walked.{event}
@@ -49,13 +49,13 @@ module _ (s : List ℕ) (i a : ℕ) (found : spot_of Event s i ≡ resulted a) w
       all_there s (descriptors_at s a).start (descriptors_at s a).length
       (omega (arith, (descriptors_sound s (length s - 4) a stood.0 stood.1).0))
 
-  pub content_whole : (k : ℕ) (d : Descriptor) → event_descriptor s a k ≡ some d → length (take d.size (drop d.start s)) ≡ d.size
+  pub content_whole : (k : ℕ) (d : Descriptor) → event_descriptor s a k ≡ Some d → length (take d.size (drop d.start s)) ≡ d.size
   unfolding event_descriptor
   content_whole k d f =
       let l = (descriptors_sound s (length s - 4) a stood.0 stood.1).0 in
       all_there s d.start d.size (omega (arith, l, descriptor_within s (end_of (descriptors_at s a)) k (descriptors_at s a).start d f))
 
-  pub advisory_whole : (region : ℕ) (t : Part) → advisory_text_at s a region ≡ some t → length (take t.length (drop t.start s)) ≡ t.length
+  pub advisory_whole : (region : ℕ) (t : Part) → advisory_text_at s a region ≡ Some t → length (take t.length (drop t.start s)) ≡ t.length
   unfolding advisory_text_at
   advisory_whole region t f =
       let l = (descriptors_sound s (length s - 4) a stood.0 stood.1).0 in

@@ -1,7 +1,6 @@
 -- SCOPE 2.3 and 6.2: the fields of an RRT and of its dimension i: 1 to 9, then 13.
 use Rattle.std.specs.Prelude.{ℕ, List}
-use Rattle.refusal.specs.Numbers.{number_of}
-use Rattle.refusal.specs.Outcomes.{Outcome, refused, resulted, after}
+use Rattle.refusal.specs.Outcomes.{Outcome, resulted, after}
 use Rattle.kind.specs.Kinds.{limits_of, only_of}
 use Rattle.section.specs.Sections.{section_by}
 use Rattle.kind.specs.declared.Kind.TheVariants.{Rrt}
@@ -11,18 +10,8 @@ use Rattle.rrt.specs.declared.dimension.ValueTexts.{ValueTexts}
 use Rattle.rrt.specs.Fields.{fields_at, dimension_at, texts_at}
 use Rattle.entry.specs.declared.Entry.TheVariants as entries
 use Rattle.entry.specs.Entries.{spot_of, rest_in, value_spot}
-use Rattle.reading.specs.declared.rrts.TableAnswer.{TableAnswer}
-use Rattle.reading.specs.declared.rrts.TableAnswer.TheVariants.{Refused, Are}
-use Rattle.reading.specs.declared.rrts.EntryAnswer.{EntryAnswer}
-use Rattle.reading.specs.declared.rrts.EntryAnswer.TheVariants as found
-use Rattle.reading.specs.declared.rrts.ValueAnswer.{ValueAnswer}
-use Rattle.reading.specs.declared.rrts.ValueAnswer.TheVariants as values
 
 -- ---- the table; its own descriptors stand where all entries are passed
-abbrev pub fields_outcome : TableAnswer → Outcome Table
-fields_outcome (Refused k) = refused (number_of k)
-fields_outcome (Are f) = resulted f
-
 unfoldable pub fields_in : ℕ → List ℕ → Outcome Table
 fields_in extension s = after (rest_in entries.Dimension s) (λ b. resulted (fields_at s extension (limits_of Rrt).body b))
 
@@ -30,17 +19,9 @@ unfoldable pub fields_of : List ℕ → Outcome Table
 fields_of s = after (section_by (only_of Rrt) s) (λ h. fields_in h.extension s)
 
 -- ---- entry i
-abbrev pub entry_outcome : EntryAnswer → Outcome Dimension
-entry_outcome (found.Refused k) = refused (number_of k)
-entry_outcome (found.Is e) = resulted e
-
 unfoldable pub entry_of : List ℕ → ℕ → Outcome Dimension
 entry_of s i = after (spot_of entries.Dimension s i) (λ a. resulted (dimension_at s a))
 
 -- ---- value j of dimension i
-abbrev pub value_outcome : ValueAnswer → Outcome ValueTexts
-value_outcome (values.Refused k) = refused (number_of k)
-value_outcome (values.Is t) = resulted t
-
 unfoldable pub value_of : List ℕ → ℕ → ℕ → Outcome ValueTexts
 value_of s i j = after (spot_of entries.Dimension s i) (λ d. after (value_spot s d j) (λ a. resulted (texts_at s a)))

@@ -1,7 +1,6 @@
 -- SCOPE 2.2 and 6.2: the fields of a TVCT and of its channel i: 1 to 9, then 13.
 use Rattle.std.specs.Prelude.{ℕ, List}
-use Rattle.refusal.specs.Numbers.{number_of}
-use Rattle.refusal.specs.Outcomes.{Outcome, refused, resulted, after}
+use Rattle.refusal.specs.Outcomes.{Outcome, resulted, after}
 use Rattle.kind.specs.Kinds.{limits_of, only_of}
 use Rattle.section.specs.Sections.{section_by}
 use Rattle.kind.specs.declared.Kind.TheVariants.{Tvct}
@@ -11,16 +10,8 @@ use Rattle.channel.specs.declared.channel.Channel.{Channel}
 use Rattle.channel.specs.Fields.{channel_at}
 use Rattle.entry.specs.declared.Entry.TheVariants as entries
 use Rattle.entry.specs.Entries.{spot_of, rest_in}
-use Rattle.reading.specs.declared.tvcts.TableAnswer.{TableAnswer}
-use Rattle.reading.specs.declared.tvcts.TableAnswer.TheVariants.{Refused, Are}
-use Rattle.reading.specs.declared.tvcts.EntryAnswer.{EntryAnswer}
-use Rattle.reading.specs.declared.tvcts.EntryAnswer.TheVariants as found
 
 -- ---- the table; its own descriptors stand where all entries are passed
-abbrev pub fields_outcome : TableAnswer → Outcome Table
-fields_outcome (Refused k) = refused (number_of k)
-fields_outcome (Are f) = resulted f
-
 unfoldable pub fields_in : ℕ → List ℕ → Outcome Table
 fields_in extension s = after (rest_in entries.Channel s) (λ b. resulted (fields_at s extension (limits_of Tvct).body b))
 
@@ -28,9 +19,5 @@ unfoldable pub fields_of : List ℕ → Outcome Table
 fields_of s = after (section_by (only_of Tvct) s) (λ h. fields_in h.extension s)
 
 -- ---- entry i
-abbrev pub entry_outcome : EntryAnswer → Outcome Channel
-entry_outcome (found.Refused k) = refused (number_of k)
-entry_outcome (found.Is e) = resulted e
-
 unfoldable pub entry_of : List ℕ → ℕ → Outcome Channel
 entry_of s i = after (spot_of entries.Channel s i) (λ a. resulted (channel_at s a))

@@ -2,7 +2,7 @@
 #![tactic(auto)]
 
 ghost use Rattle.std.specs.Prelude.{◌≡◌, ◌<◌};
-ghost use Rattle.record.specs.Records.{to_come, whole, pid_in, section_in};
+ghost use Rattle.record.specs.Records.{length_in, to_come, whole, pid_in, section_in};
 
 use bytes_at::word;
 use part::part_of;
@@ -13,32 +13,31 @@ pub const HEAD: usize = 7;
 // The longest record: those, and as many as a section_length of 12 bits can say.
 pub const LARGEST: usize = 4102;
 
+// What a record begins with.
+const MARK: usize = 0xA55A;
+
+// What the section's own section_length says.
+fn length_of(bytes: &[u8]) -> usize
+    ensures { (result ≡ length_in bytes.now) × (result < 4096) }
+{
+    word(bytes, 5) % 4096
+}
+
 // How many bytes of a record follow its first ones.
 pub fn to_come(head: &[u8]) -> usize
     ensures { (result ≡ to_come head.now) × (result < 4096) }
 {
-    if head.len() < HEAD {
-        return 0;
+    if HEAD <= head.len() && word(head, 0) == MARK {
+        length_of(head)
+    } else {
+        0
     }
-    if word(head, 0) == 0xA55A {
-        return word(head, 5) % 4096;
-    }
-    0
 }
 
 pub fn is_whole(bytes: &[u8]) -> bool
     ensures { result ≡ whole bytes.now }
 {
-    if bytes.len() < HEAD {
-        return false;
-    }
-    if word(bytes, 0) != 0xA55A {
-        return false;
-    }
-    if bytes.len() < HEAD + word(bytes, 5) % 4096 {
-        return false;
-    }
-    true
+    HEAD <= bytes.len() && word(bytes, 0) == MARK && HEAD + length_of(bytes) <= bytes.len()
 }
 
 pub fn pid_of(bytes: &[u8]) -> usize
@@ -51,5 +50,5 @@ pub fn pid_of(bytes: &[u8]) -> usize
 pub fn section_of(bytes: &[u8]) -> &[u8]
     ensures { result.now ≡ section_in bytes.now }
 {
-    part_of(bytes, 4, 3 + word(bytes, 5) % 4096)
+    part_of(bytes, 4, 3 + length_of(bytes))
 }

@@ -1,7 +1,7 @@
 // A row: the numbers of an entry, of 32 bits each, in a lent list.
 #![tactic(auto)]
 
-ghost use Rattle.std.specs.Prelude.{◌≡◌, [], ◌∷◌, ◌+◌, ◌<◌, ◌≤◌, length};
+ghost use Rattle.std.specs.Prelude.{◌≡◌, ◌+◌, ◌<◌, ◌≤◌, length};
 ghost use Rattle.std.proofs.lemmas.List.Edits.{sets};
 ghost use Rattle.row.specs.Rows.{part_row};
 
@@ -15,25 +15,12 @@ pub fn narrow(x: usize) -> u32
     x as u32
 }
 
-// Three numbers from p on.
-pub fn put3(out: &mut [u32], p: usize, a: u32, b: u32, c: u32)
-    requires { p + 3 ≤ length out.old }
-    ensures { out.new ≡ sets out.old p (a ∷ b ∷ c ∷ []) }
+// Several numbers, one after the other from p on.
+pub fn put_all<const N: usize>(out: &mut [u32], p: usize, values: [u32; N])
+    requires { p + N ≤ length out.old }
+    ensures { out.new ≡ sets out.old p values.entry }
 {
-    out[p] = a;
-    out[p + 1] = b;
-    out[p + 2] = c;
-}
-
-// Four numbers from p on.
-pub fn put4(out: &mut [u32], p: usize, a: u32, b: u32, c: u32, d: u32)
-    requires { p + 4 ≤ length out.old }
-    ensures { out.new ≡ sets out.old p (a ∷ b ∷ c ∷ d ∷ []) }
-{
-    out[p] = a;
-    out[p + 1] = b;
-    out[p + 2] = c;
-    out[p + 3] = d;
+    out[p..p + N].copy_from_slice(&values);
 }
 
 // The two numbers of a part from p on.
@@ -41,7 +28,5 @@ pub fn put_part(out: &mut [u32], p: usize, part: Part)
     requires { (p + 2 ≤ length out.old) × ((part.start < 4294967296) × (part.length < 4294967296)) }
     ensures { out.new ≡ sets out.old p (part_row part) }
 {
-    let start = narrow(part.start);
-    out[p] = start;
-    out[p + 1] = narrow(part.length);
+    put_all(out, p, [narrow(part.start), narrow(part.length)]);
 }

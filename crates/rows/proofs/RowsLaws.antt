@@ -7,7 +7,7 @@ use native.Mathlib.Numerals.{sub-one}
 use native.Mathlib.Omega.{arith}
 use lib.ListN.{length}
 use lib.Seq.{sets, length-sets}
-use Rattle.bytes_at.specs.declared.Walk.TheVariants.{To}
+use Rattle.std.specs.Prelude.{Ok}
 use Rattle.bytes_at.specs.Walks.{many}
 use Rattle.bytes_at.proofs.WalkLaws.{many_inv, reached}
 use Rattle.refusal.specs.Outcomes.{refused, resulted}
@@ -32,13 +32,13 @@ use Rattle.entry.specs.Entries.{format_of, entry_count, first_entry, entry_walk}
 use Rattle.entry.specs.Records.{kind_of_entry}
 use Rattle.entry.specs.Inner.{Begins}
 use Rattle.entry.proofs.EntryLaws.{entry_inside, judged_entries, judged_begins}
-use Rattle.rows.specs.declared.Row.{Row}
-use Rattle.rows.specs.declared.Row.TheVariants.{Table, Channel, Dimension, Event}
-use Rattle.rows.specs.Rows.{entry_for, row_width, row_at, next_at, rows_from, room_for_rows, rows_in, with_rows}
+use Rattle.entry.specs.declared.Entry.{Entry}
+use Rattle.entry.specs.declared.Entry.TheVariants.{Table, Channel, Dimension, Event}
+use Rattle.rows.specs.Rows.{row_width, row_at, next_at, rows_from, room_for_rows, rows_in, with_rows}
 use Rattle.rows.specs.Inner.{Entries}
 
 -- ---- each table's row
-row_length : (r : Row) (s : List ℕ) (a : ℕ) → length (row_at r s a) ≡ row_width r
+row_length : (r : Entry) (s : List ℕ) (a : ℕ) → length (row_at r s a) ≡ row_width r
 unfolding row_at
 row_length Table s a = row_six s a
 row_length Channel s a = row_21 s a
@@ -46,7 +46,7 @@ row_length Dimension s a = row_four s a
 row_length Event s a = row_eight s a
 
 -- an entry that a walk has passed ends where the next row begins
-entry_ends : (r : Row) (s : List ℕ) (end a b : ℕ) → walks (format_of (entry_for r)) s end a ≡ To b → b ≡ next_at r s a
+entry_ends : (r : Entry) (s : List ℕ) (end a b : ℕ) → walks (format_of r) s end a ≡ Ok b → b ≡ next_at r s a
 unfolding format_of next_at
 entry_ends Table s end a b w = defined_ends s end a b w
 entry_ends Channel s end a b w = channel_ends s end a b w
@@ -54,7 +54,7 @@ entry_ends Dimension s end a b w = dimension_ends s end a b w
 entry_ends Event s end a b w = event_ends s end a b w
 
 -- a count takes two bytes at most, so that the size of all rows is a number the code can hold
-pub count_small : (r : Row) (s : List ℕ) → Bytes s → entry_count (entry_for r) s < 65536
+pub count_small : (r : Entry) (s : List ℕ) → Bytes s → entry_count r s < 65536
 unfolding entry_count
 count_small Table s z = omega (arith, z 9, z 10)
 count_small Channel s z = omega (arith, z 9)
@@ -68,13 +68,13 @@ room_step w zero p h = absurd (omega arith)
 room_step w (suc n) p h = rw sub-one (omega (arith, mul-suc w n))
 
 -- what holds while rows are stored: the entries that are left stand, their rows have room, and to store them leads to the answer
-pub record RowsLeft (r : Row) (s : List ℕ) (size : ℕ) (final l : List ℕ) (a p n : ℕ) : Type 0 where
+pub record RowsLeft (r : Entry) (s : List ℕ) (size : ℕ) (final l : List ℕ) (a p n : ℕ) : Type 0 where
   pub entries : Entries r s n a
   pub same : length l ≡ size
   pub room : p + row_width r * n ≤ size
   pub leads : sets l p (rows_from r s n a) ≡ final
 
-module _ (r : Row) (s : List ℕ) where
+module _ (r : Entry) (s : List ℕ) where
   row_more : (l : List ℕ) (p n a : ℕ) → 0 < n
       → sets (sets l p (row_at r s a)) (p + row_width r) (rows_from r s (n - 1) (next_at r s a)) ≡ sets l p (rows_from r s n a)
   unfolding rows_from
@@ -95,9 +95,9 @@ module _ (r : Row) (s : List ℕ) where
   entries_step n a h t =
       let m = many_inv _ n a t.stands.0 h t.stands.1 in
       let e = entry_ends r s (length s - 4) a m.0 m.1.0 in
-      let f = entry_inside (entry_for r) s (length s - 4) a m.0 m.1.0 in
+      let f = entry_inside r s (length s - 4) a m.0 m.1.0 in
       record {
-        stands = (t.stands.0, subst (λ b. many (walks (format_of (entry_for r)) s (length s - 4)) (n - 1) b ≡ To t.stands.0) e m.1.1);
+        stands = (t.stands.0, subst (λ b. many (walks (format_of r) s (length s - 4)) (n - 1) b ≡ Ok t.stands.0) e m.1.1);
         begins = omega (arith, e, f);
         small = t.small;
       }
@@ -107,10 +107,10 @@ module _ (r : Row) (s : List ℕ) where
     pub rows_room : 0 < n → p + row_width r ≤ length l
     rows_room h = let e = room_step (row_width r) n p h in omega (arith, e, left.room, left.same)
 
-    pub rows_step : (m : List ℕ) (b w : ℕ) → 0 < n → m ≡ sets l p (row_at r s a) → b ≡ next_at r s a → w ≡ row_width r
-        → RowsLeft r s size final m b (p + w) (n - 1)
-    rows_step m b w h put next e =
-        rw (next, e)
+    pub rows_next : (m : List ℕ) (b w k : ℕ) → 0 < n → m ≡ sets l p (row_at r s a) → b ≡ next_at r s a → w ≡ row_width r → k ≡ n - 1
+        → RowsLeft r s size final m b (p + w) k
+    rows_next m b w k h put next e i =
+        rw (next, e, i)
         (record {
           entries = entries_step n a h left.entries;
           same = ap length put ∙ length-sets l p (row_at r s a) ∙ left.same;
@@ -127,34 +127,34 @@ unfolding format_of
 dimension_stands s n d h t = let m = many_inv _ n d t.stands.0 h t.stands.1 in (m.0, m.1.0)
 
 -- ---- whether n rows of w numbers have room, and what the lent list is then
-module _ (r : Row) (s l : List ℕ) (w n : ℕ) (wide : w ≡ row_width r) (counted : n ≡ entry_count (entry_for r) s) where
+module _ (r : Entry) (s l : List ℕ) (w n : ℕ) (wide : w ≡ row_width r) (counted : n ≡ entry_count r s) where
   pub no_room : length l < w * n → (refused 12 ≡ rows_in r s (length l)) × (l ≡ with_rows r s (rows_in r s (length l)) l)
   unfolding rows_in room_for_rows with_rows
   no_room h =
       let k = rw (wide, counted) at h in
-      let e = stops_le 12 (row_width r * entry_count (entry_for r) s) (length l) (resulted (entry_count (entry_for r) s)) {r = refused 12} k refl in
+      let e = stops_le 12 (row_width r * entry_count r s) (length l) (resulted (entry_count r s)) {r = refused 12} k refl in
       (e, rw (← e))
 
-  pub enough_room : (m : List ℕ) (a : ℕ) → w * n ≤ length l → a ≡ first_entry (entry_for r) s → m ≡ sets l 0 (rows_from r s n a)
+  pub enough_room : (m : List ℕ) (a : ℕ) → w * n ≤ length l → a ≡ first_entry r s → m ≡ sets l 0 (rows_from r s n a)
       → (resulted n ≡ rows_in r s (length l)) × (m ≡ with_rows r s (rows_in r s (length l)) l)
   unfolding rows_in room_for_rows with_rows
   enough_room m a h first put =
       let k = rw (wide, counted) at h in
-      let e = lets_le 12 (row_width r * entry_count (entry_for r) s) (length l) (resulted (entry_count (entry_for r) s)) {r = resulted n} k (ap resulted counted) in
+      let e = lets_le 12 (row_width r * entry_count r s) (length l) (resulted (entry_count r s)) {r = resulted n} k (ap resulted counted) in
       (e, rw (← e, ← first) put)
 
 -- ---- what a section that was judged has, before its rows are asked for
-largest_small : (r : Row) → (limits_of (kind_of_entry (entry_for r))).largest + 3 ≤ 4096
+largest_small : (r : Entry) → (limits_of (kind_of_entry r)).largest + 3 ≤ 4096
 largest_small Table = omega arith
 largest_small Channel = omega arith
 largest_small Dimension = omega arith
 largest_small Event = omega arith
 
-pub judged_rows : (r : Row) (s : List ℕ) (h : Header) → section_by (only_of (kind_of_entry (entry_for r))) s ≡ resulted h
-    → Begins (entry_for r) s × Entries r s (entry_count (entry_for r) s) (first_entry (entry_for r) s)
+pub judged_rows : (r : Entry) (s : List ℕ) (h : Header) → section_by (only_of (kind_of_entry r)) s ≡ resulted h
+    → Begins r s × Entries r s (entry_count r s) (first_entry r s)
 unfolding entry_walk
 judged_rows r s h judged =
-    let b = judged_begins (entry_for r) s h judged in
-    let p = (section_sound (kind_of_entry (entry_for r)) s h judged).0 in
+    let b = judged_begins r s h judged in
+    let p = (section_sound (kind_of_entry r) s h judged).0 in
     let m = largest_small r in
-    (b, record { stands = judged_entries (entry_for r) s h judged; begins = b.first; small = omega (arith, m, p.largest, p.size) })
+    (b, record { stands = judged_entries r s h judged; begins = b.first; small = omega (arith, m, p.largest, p.size) })

@@ -17,7 +17,7 @@ use Rattle.rrt.proofs.EndLaws.{values_step, values_more, values_none}
 use Rattle.rrt.proofs.RowLaws.{row_six}
 use Rattle.entry.specs.declared.Entry.TheVariants as entries
 use Rattle.entry.specs.Entries.{entry_count, first_entry}
-use Rattle.rows.specs.declared.Row.TheVariants.{Dimension}
+use Rattle.entry.specs.declared.Entry.TheVariants.{Dimension}
 use Rattle.rows.specs.Rows.{next_at, room_for_rows}
 use Rattle.rows.specs.Values.{value_rows, dimension_rows, value_count, value_rows_in, with_value_rows}
 use Rattle.rows.specs.Inner.{Entries}

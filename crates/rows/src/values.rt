@@ -5,18 +5,17 @@ ghost use Rattle.std.specs.Prelude.{◌≡◌, ◌+◌, ◌*◌, ◌<◌, ◌≤
 ghost use Rattle.std.proofs.lemmas.List.Edits.{sets};
 ghost use Rattle.rrt.specs.Fields.{values_end};
 ghost use Rattle.rrt.specs.Inner.{ValuesStand};
+ghost use Rattle.refusal.specs.Outcomes.{outcome};
 ghost use Rattle.entry.specs.Entries.{entry_count, first_entry};
 ghost use Rattle.entry.specs.Inner.{Begins};
-ghost use Rattle.rows.specs.Rows.{rows_outcome};
 ghost use Rattle.rows.specs.Values.{value_rows, dimension_rows, value_count, value_rows_in, value_rows_of, with_value_rows};
 ghost use Rattle.rows.specs.Inner.{Entries};
 
-use crate::{Row, RowsAnswer};
 use entry::{Entry, count_of, first_of};
 use kind::Kind;
 use refusal::Refusal;
 use rrt::{dimension_end, first_value, put_value, values};
-use section::{Head, judge_kind};
+use section::judge_kind;
 
 // The rows of n values of dimension i, the first of which begins at `from`, from p on, and where the
 // values end.
@@ -27,70 +26,62 @@ fn put_values(s: &[u8], i: usize, n: usize, from: usize, p: usize, out: &mut [u3
 {
     let mut a = from;
     let mut q = p;
-    let mut j = 0;
-    while j < n {
+    for j in 0..n {
         a = put_value(s, i, j, a, q, out);
         q += 6;
-        j += 1;
     }
     a
 }
 
 // The rows of the values of n dimensions, the first of which begins at `from`.
 fn put_dimensions(s: &[u8], n: usize, from: usize, out: &mut [u32])
-    requires { ((n < 256) × Entries Row.Dimension s.now n from) × (6 * value_count s.now n from ≤ length out.old) }
+    requires { ((n < 256) × Entries Entry.Dimension s.now n from) × (6 * value_count s.now n from ≤ length out.old) }
     ensures { out.new ≡ sets out.old 0 (dimension_rows s.now 0 n from) }
 {
     let mut d = from;
     let mut p = 0;
-    let mut i = 0;
-    while i < n {
+    for i in 0..n {
         let size = values(s, d);
         d = put_values(s, i, size, first_value(s, d), p, out);
         p += 6 * size;
-        i += 1;
     }
 }
 
 // How many values n dimensions have, the first of which begins at `from`.
 fn count_values(s: &[u8], n: usize, from: usize) -> usize
-    requires { (n < 256) × Entries Row.Dimension s.now n from }
+    requires { (n < 256) × Entries Entry.Dimension s.now n from }
     ensures { (result ≡ value_count s.now n from) × (result < 4096) }
 {
     let mut d = from;
     let mut count = 0;
-    let mut left = n;
-    while 0 < left {
+    for _ in 0..n {
         count += values(s, d);
         d = dimension_end(s, d);
-        left -= 1;
     }
     count
 }
 
 // The rows of a section that was judged.
-fn value_rows_in(s: &[u8], out: &mut [u32]) -> RowsAnswer
-    requires { Begins Entry.Dimension s.now × Entries Row.Dimension s.now (entry_count Entry.Dimension s.now) (first_entry Entry.Dimension s.now) }
-    ensures told { rows_outcome result ≡ value_rows_in s.now (length out.old) }
+fn value_rows_in(s: &[u8], out: &mut [u32]) -> Result<usize, Refusal>
+    requires { Begins Entry.Dimension s.now × Entries Entry.Dimension s.now (entry_count Entry.Dimension s.now) (first_entry Entry.Dimension s.now) }
+    ensures told { outcome result ≡ value_rows_in s.now (length out.old) }
     ensures put { out.new ≡ with_value_rows s.now (value_rows_in s.now (length out.old)) out.old }
 {
     let n = count_of(s, Entry::Dimension);
     let from = first_of(s, Entry::Dimension);
     let count = count_values(s, n, from);
     if out.len() < 6 * count {
-        return RowsAnswer::Refused(Refusal::OutputShort);
+        return Err(Refusal::OutputShort);
     }
     put_dimensions(s, n, from, out);
-    RowsAnswer::Are(count)
+    Ok(count)
 }
 
 // The rows of all values.
-pub fn value_rows(s: &[u8], out: &mut [u32]) -> RowsAnswer
-    ensures told { rows_outcome result ≡ value_rows_of s.now (length out.old) }
+pub fn value_rows(s: &[u8], out: &mut [u32]) -> Result<usize, Refusal>
+    ensures told { outcome result ≡ value_rows_of s.now (length out.old) }
     ensures put { out.new ≡ with_value_rows s.now (value_rows_of s.now (length out.old)) out.old }
 {
-    match judge_kind(s, Kind::Rrt) {
-        Head::Refused(k) => RowsAnswer::Refused(k),
-        Head::Passes(_h) => value_rows_in(s, out),
-    }
+    judge_kind(s, Kind::Rrt)?;
+    value_rows_in(s, out)
 }

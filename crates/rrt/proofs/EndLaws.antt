@@ -5,7 +5,7 @@ use mathlib.Core.List.{List}
 use native.Mathlib.Numerals.{sub-one}
 use native.Mathlib.Omega.{arith}
 use lib.ListN.{length}
-use Rattle.bytes_at.specs.declared.Walk.TheVariants.{To}
+use Rattle.std.specs.Prelude.{Ok}
 use Rattle.bytes_at.specs.Walks.{many}
 use Rattle.bytes_at.proofs.WalkLaws.{many_inv}
 use Rattle.format.specs.Formats.{walks}
@@ -21,7 +21,7 @@ values_step s n a h t =
     let m = many_inv _ n a t.0 h t.1 in
     let e = value_ends s (length s - 4) a m.0 m.1.0 in
     let f = value_forward s (length s - 4) a m.0 m.1.0 in
-    (omega (arith, f), (t.0, subst (λ b. many (walks value s (length s - 4)) (n - 1) b ≡ To t.0) e m.1.1))
+    (omega (arith, f), (t.0, subst (λ b. many (walks value s (length s - 4)) (n - 1) b ≡ Ok t.0) e m.1.1))
 
 pub values_more : (s : List ℕ) (n a : ℕ) → 0 < n → values_end s (n - 1) (value_end s a) ≡ values_end s n a
 unfolding values_end

@@ -42,7 +42,7 @@ record Placed (s : List ℕ) (at : ℕ) (x : text.Val) (more : List ℕ) : Type 
   behind : Lies more s (text_end s at)
 
 module _ (s : List ℕ) (z : Bytes s) where
-  placed : (at : ℕ) (x : text.Val) (more : List ℕ) → (sized8 text).Ok (record {}) (record {}, x)
+  placed : (at : ℕ) (x : text.Val) (more : List ℕ) → (sized8 text).Formed (record {}) (record {}, x)
       → Lies ((sized8 text).enc (record {}, x) ++ more) s at → Placed s at x more
   unfolding text_at text_end
   placed at x more o l =
@@ -52,7 +52,7 @@ module _ (s : List ℕ) (z : Bytes s) where
       record { part = t.0; ends = ap end_of t.0; past = e; lies = t.1; behind = lies_at more s _ _ (sym e) i.1 }
 
   -- ---- a value
-  module _ (a : ℕ) (v : ValueFields) (o : value_format.Ok (record {}) v) (l : Lies (value_format.enc v) s a) where
+  module _ (a : ℕ) (v : ValueFields) (o : value_format.Formed (record {}) v) (l : Lies (value_format.enc v) s a) where
     short_placed : Placed s a v.short ((sized8 text).enc (record {}, v.long))
     short_placed = placed a v.short ((sized8 text).enc (record {}, v.long)) o.0 l
 
@@ -77,14 +77,14 @@ module _ (s : List ℕ) (z : Bytes s) where
     value_end_there =
         sym (value_ends s (a + length (value_format.enc v)) a _ ((value_format.law laws (record {})).sound s (a + length (value_format.enc v)) a v o l (omega arith)))
 
-    pub short_lies : text.Ok (record {}) v.short × Lies (text.enc v.short) s (texts_for a v).short_text.start
+    pub short_lies : text.Formed (record {}) v.short × Lies (text.enc v.short) s (texts_for a v).short_text.start
     short_lies = (o.0.1.1.1, short_placed.lies)
 
-    pub long_lies : text.Ok (record {}) v.long × Lies (text.enc v.long) s (texts_for a v).long_text.start
+    pub long_lies : text.Formed (record {}) v.long × Lies (text.enc v.long) s (texts_for a v).long_text.start
     long_lies = (o.1.1.1.1, long_placed.1)
 
   -- ---- a dimension
-  module _ (d : ℕ) (x : DimensionFields) (o : dimension_format.Ok (record {}) x) (l : Lies (dimension_format.enc x) s d) where
+  module _ (d : ℕ) (x : DimensionFields) (o : dimension_format.Formed (record {}) x) (l : Lies (dimension_format.enc x) s d) where
     -- its scale and its values, as they are told behind its name
     abbrev told : List ℕ
     told = (few_not_none scale_head 4 refl value_format).enc ((x.r, (x.scale, record {})), x.values)
@@ -114,7 +114,7 @@ module _ (s : List ℕ) (z : Bytes s) where
     end_there =
         sym (dimension_ends s (d + length (dimension_format.enc x)) d _ ((dimension_format.law laws (record {})).sound s (d + length (dimension_format.enc x)) d x o l (omega arith)))
 
-    pub dimension_name_lies : text.Ok (record {}) x.name × Lies (text.enc x.name) s (dimension_for d x).name.start
+    pub dimension_name_lies : text.Formed (record {}) x.name × Lies (text.enc x.name) s (dimension_for d x).name.start
     dimension_name_lies = (o.0.1.1.1, name_placed.lies)
 
     pub first_value_there : first_value_at s d ≡ first_value_for d x
@@ -136,7 +136,7 @@ pub same_walk : (s : List ℕ) (end at : ℕ) → walks_all rrt s end at ≡ wal
 unfolding rrt dimensions_and_list dimensions dimension value sized_text list10
 same_walk s end at = refl
 
-module _ (s : List ℕ) (z : Bytes s) (at end : ℕ) (b : RrtFields) (o : rrt_format.Ok (record {}) b) (l : Lies (rrt_format.enc b) s at)
+module _ (s : List ℕ) (z : Bytes s) (at end : ℕ) (b : RrtFields) (o : rrt_format.Formed (record {}) b) (l : Lies (rrt_format.enc b) s at)
     (whole : end ≡ at + length (rrt_format.enc b)) where
   -- the dimensions with their count, and the table's own descriptors with their length
   abbrev listed : List ℕ
@@ -162,7 +162,7 @@ module _ (s : List ℕ) (z : Bytes s) (at end : ℕ) (b : RrtFields) (o : rrt_fo
   pub first_there : first_at s at ≡ first_for at b
   first_there = ap (◌+ 1) region_placed.ends
 
-  pub name_lies : text.Ok (record {}) b.name × Lies (text.enc b.name) s (part_for at b.name).start
+  pub name_lies : text.Formed (record {}) b.name × Lies (text.enc b.name) s (part_for at b.name).start
   name_lies = (o.0.1.1.1, region_placed.lies)
 
   pub entries_there : (count_at s at ≡ length b.dimensions) × Stand dimension_format s end (first_at s at) b.dimensions

@@ -76,10 +76,8 @@ fn values_end(s: &[u8], n: usize, from: usize) -> usize
     ensures { result ≡ values_end s.now n from }
 {
     let mut a = from;
-    let mut left = n;
-    while 0 < left {
+    for _ in 0..n {
         a = value_end(s, a);
-        left -= 1;
     }
     a
 }

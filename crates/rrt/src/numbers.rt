@@ -1,12 +1,12 @@
 // A dimension, and a value, as a row of numbers.
-ghost use Rattle.std.specs.Prelude.{◌≡◌, [], ◌∷◌, ◌+◌, ◌<◌, ◌≤◌, length};
+ghost use Rattle.std.specs.Prelude.{◌≡◌, ◌+◌, ◌<◌, ◌≤◌, length};
 ghost use Rattle.std.proofs.lemmas.List.Edits.{sets};
 ghost use Rattle.rrt.specs.Fields.{value_end, dimension_end, dimension_row, texts_row, value_row};
 ghost use Rattle.rrt.specs.Inner.{DimensionStands};
 
 use crate::dimension::dimension_end;
 use bytes_at::byte;
-use row::{narrow, put_part, put4};
+use row::{narrow, put_all, put_part};
 use strings::{text_at, text_end};
 
 // The numbers of the dimension that begins at d, from p on.
@@ -16,15 +16,13 @@ fn put_numbers(s: &[u8], d: usize, p: usize, out: &mut [u32])
 {
     let name = text_at(s, d);
     let x = byte(s, text_end(s, d));
-    let start = narrow(name.start);
-    put4(
-        out,
-        p,
-        start,
+    let numbers = [
+        narrow(name.start),
         narrow(name.length),
         narrow(x / 16 % 2),
         narrow(x % 16),
-    );
+    ];
+    put_all(out, p, numbers);
 }
 
 // The row of the dimension that begins at d, from p on, and where the next one begins.
@@ -35,16 +33,6 @@ pub fn put_row(s: &[u8], d: usize, p: usize, out: &mut [u32]) -> usize
 {
     put_numbers(s, d, p, out);
     dimension_end(s, d)
-}
-
-// The numbers of dimension i and of its value j, from p on.
-fn put_pair(i: usize, j: usize, p: usize, out: &mut [u32])
-    requires { ((i < 256) × (j < 16)) × (p + 2 ≤ length out.old) }
-    ensures { out.new ≡ sets out.old p (i ∷ j ∷ []) }
-{
-    let dimension = narrow(i);
-    out[p] = dimension;
-    out[p + 1] = narrow(j);
 }
 
 // The texts of the value that begins at a, from p on, and where the next value begins.
@@ -65,6 +53,6 @@ pub fn put_value(s: &[u8], i: usize, j: usize, a: usize, p: usize, out: &mut [u3
     ensures next { result ≡ value_end s.now a }
     ensures puts { out.new ≡ sets out.old p (value_row s.now i j a) }
 {
-    put_pair(i, j, p, out);
+    put_all(out, p, [narrow(i), narrow(j)]);
     put_texts(s, a, p + 2, out)
 }

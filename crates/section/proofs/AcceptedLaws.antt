@@ -6,7 +6,7 @@ use mathlib.Core.List.{List, ◌++◌}
 use native.Mathlib.Omega.{arith}
 use lib.ListN.{length, take}
 use lib.Seq.{take-add}
-use Rattle.bytes_at.specs.declared.Walk.TheVariants.{To}
+use Rattle.std.specs.Prelude.{Ok}
 use Rattle.checksum.specs.Register.{sealed}
 use Rattle.checksum.proofs.Sealing.{resealed}
 use Rattle.refusal.specs.Outcomes.{resulted}
@@ -46,13 +46,13 @@ module _ (k : Kind) (s : List ℕ) (z : Bytes s) (h : Header) (q : section_by (o
   room = let p = passed.1 in omega (arith, (known k).smallest, p.smallest, p.size)
 
   -- the body by its record
-  body_walk_lem : (body_format k).walk (record {}) s (length s - 4) 9 ≡ To (length s - 4)
+  body_walk_lem : (body_format k).walk (record {}) s (length s - 4) 9 ≡ Ok (length s - 4)
   body_walk_lem =
       let w = (section_sound k s h q).1 in
       let v = sym (ap (λ b. (body_format k).walk (record {}) s (length s - 4) b) (known k).body) ∙ sym (same_walk k s (length s - 4) (limits_of k).body) ∙ w.1 in
-      v ∙ ap To (((body_format k).law laws (record {})).whole s (length s - 4) 9 w.0 v)
+      v ∙ ap Ok (((body_format k).law laws (record {})).whole s (length s - 4) 9 w.0 v)
 
-  body_value : (x : (body_format k).Val) × ((body_format k).Ok (record {}) x × (between s 9 (length s - 4) ≡ (body_format k).enc x))
+  body_value : (x : (body_format k).Val) × ((body_format k).Formed (record {}) x × (between s 9 (length s - 4) ≡ (body_format k).enc x))
   body_value = let r = room in (accepted_all s (length s - 4) 9 (omega arith) (omega arith) z (body_format k) (record {})).0 body_walk_lem
 
   abbrev header : HeaderFields

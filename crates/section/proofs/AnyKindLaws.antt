@@ -1,4 +1,5 @@
 -- The same of a call that reads all five kinds.
+use Rattle.std.specs.Prelude.{Option, Some, None}
 use Prim.Native.Nat.{ℕ}
 use mathlib.Core.Path.{◌≡◌, refl, sym, ap, ◌∙◌}
 use mathlib.Core.Logic.{◌↔◌}
@@ -15,8 +16,6 @@ use Rattle.refusal.proofs.OutcomeLaws.{not_both}
 use Rattle.refusal.proofs.TestLaws.{passed_le}
 use Rattle.kind.specs.declared.Kind.{Kind}
 use Rattle.kind.specs.declared.Kind.TheVariants.{Mgt, Tvct, Rrt, Eit, Ett}
-use Rattle.kind.specs.declared.Found.{Found}
-use Rattle.kind.specs.declared.Found.TheVariants.{Is, Nothing}
 use Rattle.kind.specs.Kinds.{table_id_of, only_of, kind_of}
 use Rattle.format.specs.Repeats.{Bytes}
 use Rattle.section.specs.declared.header.Header.{Header}
@@ -27,23 +26,23 @@ use Rattle.section.proofs.SectionLaws.{header_passed, section_header}
 use Rattle.section.proofs.AcceptedLaws.{exactly}
 
 -- ---- the two ways to find a kind agree on its table_id
-step : (t : Bool) (j k : Kind) (id : ℕ) (rest : Found) → (t ≡ true → id ≡ table_id_of j) → (rest ≡ Is k → id ≡ table_id_of k)
-    → pick t (Is j) rest ≡ Is k → id ≡ table_id_of k
+step : (t : Bool) (j k : Kind) (id : ℕ) (rest : Option Kind) → (t ≡ true → id ≡ table_id_of j) → (rest ≡ Some k → id ≡ table_id_of k)
+    → pick t (Some j) rest ≡ Some k → id ≡ table_id_of k
 step true j k id rest f g e = let q : j ≡ k = cc in f refl ∙ ap table_id_of q
 step false j k id rest f g e = g e
 
-nothing : (id : ℕ) (k : Kind) → Nothing ≡ Is k → id ≡ table_id_of k
+nothing : (id : ℕ) (k : Kind) → None ≡ Some k → id ≡ table_id_of k
 nothing id k e = let z : ◌≡◌ {A = ℕ} 0 1 = cc in absurd (omega arith)
 
-found_id : (id : ℕ) (k : Kind) → kind_of id ≡ Is k → id ≡ table_id_of k
+found_id : (id : ℕ) (k : Kind) → kind_of id ≡ Some k → id ≡ table_id_of k
 unfolding kind_of if_eq
 found_id id k e =
     step _ Mgt k id _ (eqb-true _ _)
     (step _ Tvct k id _ (eqb-true _ _)
-    (step _ Rrt k id _ (eqb-true _ _) (step _ Eit k id _ (eqb-true _ _) (step _ Ett k id Nothing (eqb-true _ _) (nothing id k)))))
+    (step _ Rrt k id _ (eqb-true _ _) (step _ Eit k id _ (eqb-true _ _) (step _ Ett k id None (eqb-true _ _) (nothing id k)))))
     e
 
-id_found : (k : Kind) → kind_of (table_id_of k) ≡ Is k
+id_found : (k : Kind) → kind_of (table_id_of k) ≡ Some k
 unfolding kind_of if_eq
 id_found Mgt = refl
 id_found Tvct = refl
@@ -53,16 +52,16 @@ id_found Ett = refl
 
 agree : (s : List ℕ) (k : Kind) → table_id s ≡ table_id_of k → kind_of (table_id s) ≡ only_of k (table_id s)
 unfolding only_of
-agree s k e = ap kind_of e ∙ id_found k ∙ eq_yes (table_id s) (table_id_of k) (Is k) Nothing e refl
+agree s k e = ap kind_of e ∙ id_found k ∙ eq_yes (table_id s) (table_id_of k) (Some k) None e refl
 
-by : (f g : ℕ → Found) (s : List ℕ) → f (table_id s) ≡ g (table_id s) → section_by f s ≡ section_by g s
+by : (f g : ℕ → Option Kind) (s : List ℕ) → f (table_id s) ≡ g (table_id s) → section_by f s ≡ section_by g s
 unfolding section_by header_by
-by f g s e = ap (λ (x : Found). after (or_refuse 1 (leb 3 (length s)) (of_kind s x)) (λ h. body_test h s)) e
+by f g s e = ap (λ (x : Option Kind). after (or_refuse 1 (leb 3 (length s)) (of_kind s x)) (λ h. body_test h s)) e
 
-some_kind : (f : Found) (s : List ℕ) (h : Header) → of_kind s f ≡ resulted h → (k : Kind) × (f ≡ Is k)
+some_kind : (f : Option Kind) (s : List ℕ) (h : Header) → of_kind s f ≡ resulted h → (k : Kind) × (f ≡ Some k)
 unfolding of_kind
-some_kind Nothing s h e = not_both 2 h e
-some_kind (Is k) s h e = (k, refl)
+some_kind None s h e = not_both 2 h e
+some_kind (Some k) s h e = (k, refl)
 
 read_kind : (s : List ℕ) (h : Header) → header_by kind_of s ≡ resulted h → (k : Kind) × (table_id s ≡ table_id_of k)
 unfolding header_by

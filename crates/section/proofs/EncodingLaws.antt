@@ -5,12 +5,11 @@ use mathlib.Core.List.{List, ◌++◌, append_assoc}
 use native.Mathlib.Omega.{arith}
 use lib.ListN.{length, take, drop, length-append}
 use lib.Seq.{take_at, drop_at}
-use Rattle.bytes_at.specs.declared.Walk.{Walk}
-use Rattle.bytes_at.specs.declared.Walk.TheVariants.{To}
+use Rattle.std.specs.Prelude.{Ok}
 use Rattle.checksum.specs.Register.{register, four_bytes, sealed}
 use Rattle.checksum.proofs.Sealing.{sealed_sound}
 use Rattle.refusal.specs.Outcomes.{Outcome, resulted, after}
-use Rattle.bytes_at.specs.Walks.{standing}
+use Rattle.bytes_at.specs.Walks.{standing, Walk}
 use Rattle.kind.specs.declared.Kind.{Kind}
 use Rattle.kind.specs.Kinds.{limits_of, only_of}
 use Rattle.format.proofs.KeptLaws.{laws}
@@ -98,7 +97,7 @@ encode_bytes k y o =
     subst (λ l. Bytes l) (sym (bytes k y o)) (bytes_append (bytes_of 9 (number header_head (head_of k y))) _ h b)
 
 -- ---- it is accepted
-stands : (k : Kind) (s : List ℕ) (h : Header) (e : ℕ) → header_by (only_of k) s ≡ resulted h → body_walk h.kind s ≡ To e
+stands : (k : Kind) (s : List ℕ) (h : Header) (e : ℕ) → header_by (only_of k) s ≡ resulted h → body_walk h.kind s ≡ Ok e
     → section_by (only_of k) s ≡ resulted h
 unfolding section_by body_test after standing
 stands k s h e p q = ap (λ (o : Outcome Header). after o (λ g. body_test g s)) p ∙ ap (λ (w : Walk). after (standing w) (λ x. resulted h)) q
@@ -134,7 +133,7 @@ module _ (k : Kind) (y : Section k) (o : WellFormed k y) where
         fields = sym header_is;
       }
 
-  walk_stands : body_walk k (encode y) ≡ To (length (encode y) - 4)
+  walk_stands : body_walk k (encode y) ≡ Ok (length (encode y) - 4)
   walk_stands =
       same_walk k (encode y) (length (encode y) - 4) (limits_of k).body
       ∙ ((body_format k).law laws (record {})).sound (encode y) (length (encode y) - 4) (limits_of k).body y.body o.body (body_lies k y o) (body_ends k y o)

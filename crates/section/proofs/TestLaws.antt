@@ -1,4 +1,5 @@
 -- The header's tests, one after another: what each refuses, and what passes them.
+use Rattle.std.specs.Prelude.{Option}
 use Prim.Native.Nat.{ℕ, ◌+◌, ◌≤◌, ◌<◌}
 use mathlib.Core.Path.{◌≡◌, refl}
 use mathlib.Core.List.{List}
@@ -9,12 +10,11 @@ use Rattle.refusal.specs.Outcomes.{Outcome, refused, resulted}
 use Rattle.refusal.proofs.TestLaws.{lets_le, stops_le, lets_eq, stops_eq, lets_ne, stops_ne}
 use Rattle.kind.specs.declared.Kind.{Kind}
 use Rattle.kind.specs.declared.Limits.{Limits}
-use Rattle.kind.specs.declared.Found.{Found}
 use Rattle.section.specs.declared.header.Header.{Header}
 use Rattle.section.specs.Headers.{table_id, syntax_indicator, private_indicator, section_length, section_number, last_section_number, header_in, header_by, of_kind, length_tests, checksum_test, number_tests}
 
 -- ---- 1
-module _ (finds : ℕ → Found) (s : List ℕ) where
+module _ (finds : ℕ → Option Kind) (s : List ℕ) where
   pub too_short : length s < 3 → refused 1 ≡ header_by finds s
   unfolding header_by
   too_short h = stops_le 1 3 (length s) (of_kind s (finds (table_id s))) h refl

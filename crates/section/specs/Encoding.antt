@@ -63,7 +63,7 @@ pub record WellFormed (k : Kind) (y : Section k) : Type 0 where
   pub last : y.header.last ≤ (limits_of k).last
   pub smallest : (limits_of k).smallest ≤ length_with (length (body_bytes y))
   pub largest : length_with (length (body_bytes y)) ≤ (limits_of k).largest
-  pub body : (body_format k).Ok (record {}) y.body
+  pub body : (body_format k).Formed (record {}) y.body
 
 -- ---- what is told of it
 -- the header that is answered

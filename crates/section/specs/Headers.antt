@@ -1,13 +1,11 @@
 -- SCOPE 1.3, and SCOPE 6, numbers 1 to 8: the fields of the header, and its tests in the order of their numbers.
-use Rattle.std.specs.Prelude.{ℕ, ◌+◌, ◌/◌, ◌%◌, not, List, eqb, leb, length}
+use Rattle.std.specs.Prelude.{ℕ, ◌+◌, ◌/◌, ◌%◌, not, List, eqb, leb, length, Option, Some, None}
 use Rattle.bytes_at.specs.Fields.{byte_at, word_at}
 use Rattle.checksum.specs.Register.{register}
 use Rattle.refusal.specs.Numbers.{number_of}
 use Rattle.refusal.specs.Outcomes.{Outcome, refused, resulted, or_refuse}
 use Rattle.kind.specs.declared.Kind.{Kind}
 use Rattle.kind.specs.declared.Limits.{Limits}
-use Rattle.kind.specs.declared.Found.{Found}
-use Rattle.kind.specs.declared.Found.TheVariants.{Is, Nothing}
 use Rattle.kind.specs.Kinds.{limits_of}
 use Rattle.section.specs.declared.header.Header.{Header}
 
@@ -73,10 +71,10 @@ length_tests l k s =
     (checksum_test l k s)))))
 
 -- 2
-unfoldable pub of_kind : List ℕ → Found → Outcome Header
-of_kind s Nothing = refused 2
-of_kind s (Is k) = length_tests (limits_of k) k s
+unfoldable pub of_kind : List ℕ → Option Kind → Outcome Header
+of_kind s None = refused 2
+of_kind s (Some k) = length_tests (limits_of k) k s
 
 -- 1 to 8 of a call that reads the kinds that `finds` finds by their table_id: all five (kind_of), or one (only_of k)
-unfoldable pub header_by : (ℕ → Found) → List ℕ → Outcome Header
+unfoldable pub header_by : (ℕ → Option Kind) → List ℕ → Outcome Header
 header_by finds s = or_refuse 1 (leb 3 (length s)) (of_kind s (finds (table_id s)))

@@ -3,53 +3,59 @@
 ghost use Rattle.std.specs.Prelude.{◌≡◌, true, ◌+◌, ◌-◌, ◌*◌, ◌<◌, ◌≤◌, length, take};
 ghost use Rattle.std.proofs.lemmas.List.Edits.{sets};
 ghost use Rattle.checksum.specs.Register.{register, four_bytes};
+ghost use Rattle.refusal.specs.Outcomes.{outcome};
 ghost use Rattle.kind.specs.Kinds.{limits_of, kind_of, only_of};
 ghost use Rattle.format.specs.Formats.{walks_all};
 ghost use Rattle.format.specs.Values.{number, bytes_of};
+ghost use Rattle.section.specs.declared.inner.Fault.TheVariants.{Refused};
 ghost use Rattle.section.specs.Walked.{body_of};
-ghost use Rattle.section.specs.Answers.{head_outcome, verdict_of, verdict_by, with_body, body_verdict};
+ghost use Rattle.section.specs.Answers.{verdict_of, verdict_by, with_body, body_verdict};
 ghost use Rattle.section.specs.Encoding.{header_head, length_with, head_for};
 ghost use Rattle.section.specs.Writing.{header_given, header_fits};
 
-use crate::header::{Head, Header, header_of_any, header_of_kind};
+use crate::header::{Header, header_of_any, header_of_kind};
 use crate::write::Given;
-use bytes_at::{Walk, less};
-use bytes_put::{put_long, put_three};
+use bytes_at::Walk;
+use bytes_put::put_number;
 use kind::Kind;
 use part::part_of;
 use refusal::Refusal;
 
-// A refusal by one of the tests 1 to 8; a body that fails test 9, and the offset of the field that is
-// to blame; or a sound section, and its header.
+// What is wrong with a section: a refusal by one of the tests 1 to 8, or a body that fails test 9, with the offset of the
+// field that is to blame.
 #[derive(Clone, Copy)]
-pub enum Inspected {
+pub enum Fault {
     Refused(Refusal),
     Broken(usize),
-    Sound(Header),
+}
+
+impl From<Refusal> for Fault {
+    ghost from_gives = { λ k x. x ≡ Refused k };
+
+    fn from(k: Refusal) -> Fault {
+        Fault::Refused(k)
+    }
 }
 
 // A section of any of the kinds.
-pub fn inspect_any(s: &[u8]) -> Inspected
+pub fn inspect_any(s: &[u8]) -> Result<Header, Fault>
     ensures { verdict_of result ≡ verdict_by kind_of s.now }
 {
     with_body(s, header_of_any(s))
 }
 
 // A section of one kind; the others are refused.
-pub fn inspect_kind(s: &[u8], kind: Kind) -> Inspected
+pub fn inspect_kind(s: &[u8], kind: Kind) -> Result<Header, Fault>
     ensures { verdict_of result ≡ verdict_by (only_of kind) s.now }
 {
     with_body(s, header_of_kind(s, kind))
 }
 
 // 9, after what the header's tests said.
-fn with_body(s: &[u8], head: Head) -> Inspected
-    ensures { verdict_of result ≡ with_body (head_outcome head) s.now }
+fn with_body(s: &[u8], head: Result<Header, Refusal>) -> Result<Header, Fault>
+    ensures { verdict_of result ≡ with_body (outcome head) s.now }
 {
-    match head {
-        Head::Refused(k) => Inspected::Refused(k),
-        Head::Passes(h) => body_test(s, h),
-    }
+    body_test(s, head?)
 }
 
 // The body of a section of this kind, from `at` to `end`.
@@ -65,14 +71,11 @@ fn whole_body(s: &[u8], kind: Kind, end: usize, at: usize) -> Walk
     }
 }
 
-fn body_test(s: &[u8], h: Header) -> Inspected
+fn body_test(s: &[u8], h: Header) -> Result<Header, Fault>
     ensures { verdict_of result ≡ body_verdict h s.now }
 {
-    let kind = h.kind;
-    match whole_body(s, kind, body_end(s), body_start(kind)) {
-        Walk::To(_) => Inspected::Sound(h),
-        Walk::Bad(x) => Inspected::Broken(x),
-    }
+    whole_body(s, h.kind, body_end(s), body_start(h.kind)).map_err(Fault::Broken)?;
+    Ok(h)
 }
 
 // Where the body of a section of this kind begins.
@@ -87,7 +90,7 @@ pub fn body_start(kind: Kind) -> usize
 pub fn body_end(s: &[u8]) -> usize
     ensures { result ≡ length s.now - 4 }
 {
-    less(s.len(), 4)
+    s.len().saturating_sub(4)
 }
 
 // The first three bytes of a header, to section_length, where the body has n bytes. Indicators and reserved bits are ones.
@@ -119,13 +122,13 @@ pub fn put_header(kind: Kind, g: Given, n: usize, out: &mut [u8])
     requires { (header_fits g ≡ true) × ((n + 13 ≤ 4096) × (9 ≤ length out.old)) }
     ensures { out.new ≡ sets out.old 0 (bytes_of 9 (number header_head (head_for kind (header_given g) n))) }
 {
-    put_three(out, 0, id_and_length(kind.table_id(), n));
-    put_three(
+    put_number::<3>(out, 0, id_and_length(kind.table_id(), n));
+    put_number::<3>(
         out,
         3,
         extension_and_version(g.extension, g.version, g.current),
     );
-    put_three(out, 6, numbers_and_protocol(g.number, g.last));
+    put_number::<3>(out, 6, numbers_and_protocol(g.number, g.last));
 }
 
 // The checksum of the first n bytes, behind them.
@@ -134,5 +137,5 @@ pub fn seal(out: &mut [u8], n: usize)
     ensures { out.new ≡ sets out.old n (four_bytes (register (take n out.old))) }
 {
     let checksum = checksum::register_of(part_of(out, 0, n));
-    put_long(out, n, checksum as usize);
+    put_number::<4>(out, n, checksum as usize);
 }

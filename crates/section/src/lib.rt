@@ -7,5 +7,5 @@ pub mod inner;
 mod judge;
 pub mod write;
 
-pub use header::{Head, Header};
+pub use header::Header;
 pub use judge::{judge_any, judge_kind};

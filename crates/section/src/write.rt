@@ -15,42 +15,25 @@ pub struct Given {
 }
 
 // 23: has each number room in its field?
+#[tactic(auto, using(logic::proofs::TestLaws::joined), unfolding(crate::specs::Writing::header_fits))]
 pub fn header_fits(g: Given) -> bool
     ensures { result ≡ header_fits g }
 {
-    if g.extension >= 65536 {
-        return false;
-    }
-    if g.version >= 32 {
-        return false;
-    }
-    if g.current >= 2 {
-        return false;
-    }
-    if g.number >= 256 {
-        return false;
-    }
-    g.last < 256
+    g.extension < 65536 && g.version < 32 && g.current < 2 && g.number < 256 && g.last < 256
 }
 
 // 8: may a section of this kind have these numbers?
+#[tactic(auto, using(logic::proofs::TestLaws::joined), unfolding(crate::specs::Writing::numbers_fit))]
 pub fn numbers_fit(kind: Kind, g: Given) -> bool
     ensures { result ≡ numbers_fit kind g }
 {
-    let limits = kind.limits();
-    if g.last < g.number {
-        return false;
-    }
-    g.last <= limits.last
+    g.number <= g.last && g.last <= kind.limits().last
 }
 
 // 24: may a section of this kind have n bytes, and has a buffer of so many bytes room for them?
+#[tactic(auto, using(logic::proofs::TestLaws::joined), unfolding(crate::specs::Writing::length_fits))]
 pub fn length_fits(kind: Kind, room: usize, n: usize) -> bool
     ensures { result ≡ length_fits kind room n }
 {
-    let limits = kind.limits();
-    if limits.largest + 3 < n {
-        return false;
-    }
-    n <= room
+    n <= kind.limits().largest + 3 && n <= room
 }

@@ -1,8 +1,8 @@
 -- Once a section is accepted, no reader refuses it by 9: what is told of a record never is.
+use Rattle.std.specs.Prelude.{Option, None, Some}
 use Prim.Native.Nat.{ℕ, zero, suc, ◌+◌}
 use mathlib.Core.Path.{◌≡◌, sym, ap, ◌∙◌}
 use mathlib.Core.List.{List, [], ◌∷◌}
-use mathlib.Core.Option.{Option, none, some}
 use native.Mathlib.Omega.{arith}
 use lib.ListN.{length}
 use Rattle.refusal.specs.Outcomes.{Outcome, refused, resulted, after, or_none}
@@ -28,13 +28,13 @@ use Rattle.reading.specs.Tvcts as tvcts
 use Rattle.reading.specs.Rrts as rrts
 use Rattle.reading.specs.Eits as eits
 use Rattle.reading.specs.Etts as etts
-use Rattle.rows.specs.declared.Row.{Row}
-use Rattle.rows.specs.Rows.{entry_for, row_width, room_for_rows, rows_of}
+use Rattle.rows.specs.Rows.{row_width, room_for_rows, rows_of}
 use Rattle.rows.specs.Values.{value_rows_of}
 use Rattle.section_text.specs.declared.field.Which.{Which}
 use Rattle.section_text.specs.Fields.{kind_for, field_of}
 use Rattle.section_text.specs.Texts.{text_count, text_heading, text_units}
 use Rattle.section_text.proofs.SoundLaws.{field_nine, no_nine, no_nine_heading}
+use Rattle.titles.specs.declared.Counts.{Counts}
 use Rattle.titles.specs.Titles as titles
 use Rattle.section_laws.specs.Accepted.{Reads, NoNine}
 use Rattle.section_laws.proofs.TableLaws.{mgt_reads, defined_reads, tvct_reads, channel_reads, rrt_reads, dimension_reads, value_reads, eit_reads_lem, event_reads, ett_reads_lem}
@@ -57,8 +57,8 @@ none_fair : {A : Type 0} → Fair {A = A} (refused 13)
 none_fair = other_fair 13 (λ e. omega arith)
 
 or_fair : {A : Type 0} (x : Option A) → Fair (or_none x)
-or_fair none = none_fair
-or_fair (some x) = result_fair x
+or_fair None = none_fair
+or_fair (Some x) = result_fair x
 
 nth_fair : {X A : Type 0} (enc : X → List ℕ) (told : ℕ → X → Outcome A) → ((a : ℕ) (x : X) → Fair (told a x)) → (a : ℕ) (xs : List X) (i : ℕ)
     → Fair (nth_of enc told (refused 13) a xs i)
@@ -126,7 +126,7 @@ room_fair : (w n room : ℕ) → Fair (room_for_rows w n room)
 unfolding room_for_rows
 room_fair w n room = either_way Fair 12 _ (resulted n) (other_fair 12 (λ e. omega arith)) (result_fair n)
 
-pub rows_nine : (r : Row) (room : ℕ) → NoNine (kind_of_entry (entry_for r)) (λ s. rows_of r s room)
+pub rows_nine : (r : Entry) (room : ℕ) → NoNine (kind_of_entry r) (λ s. rows_of r s room)
 rows_nine r room = fair_reader _ _ _ (row_count_reads r room) (λ y. room_fair (row_width r) _ room)
 
 pub value_rows_nine : (room : ℕ) → NoNine Rrt (λ s. value_rows_of s room)
@@ -152,7 +152,7 @@ unfolding text_count
 count_nine w s z h q e = units_fair s w h q (count_first (field_of s w) _ e)
 
 -- ---- all titles
-titles_fair : (c : titles.Counts) (rows units : ℕ) → Fair (titles.room_for_titles c rows units)
+titles_fair : (c : Counts) (rows units : ℕ) → Fair (titles.room_for_titles c rows units)
 unfolding titles.room_for_titles
 titles_fair c rows units =
     either_way Fair 12 _ _ (other_fair 12 (λ e. omega arith)) (either_way Fair 12 _ (resulted c) (other_fair 12 (λ e. omega arith)) (result_fair c))

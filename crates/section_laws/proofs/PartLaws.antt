@@ -1,8 +1,8 @@
 -- At every part that is told of a record, its encoding has the bytes of the record's field.
+use Rattle.std.specs.Prelude.{None, Some}
 use Prim.Native.Nat.{ℕ, ◌+◌}
 use mathlib.Core.Path.{◌≡◌, refl, ap, ◌∙◌}
 use mathlib.Core.List.{List}
-use mathlib.Core.Option.{none, some}
 use native.Mathlib.Omega.{arith}
 use lib.ListN.{length}
 use Rattle.refusal.specs.Outcomes.{Outcome, refused, resulted, after, or_none}
@@ -41,19 +41,19 @@ use Rattle.section_laws.proofs.AskedLaws.{region_text_lem}
 
 -- ---- of entry i: what stands there for every entry stands there for that
 module _ (e : Entry) {A : Type 0} (told : ℕ → (record_of e).Val → Outcome A) (part : A → Part) (says : ℕ → (record_of e).Val → Outcome (List ℕ))
-    (there : (y : Section (kind_of_entry e)) → WellFormed (kind_of_entry e) y → (a b : ℕ) (x : (record_of e).Val) → (record_of e).Ok (record {}) x
+    (there : (y : Section (kind_of_entry e)) → WellFormed (kind_of_entry e) y → (a b : ℕ) (x : (record_of e).Val) → (record_of e).Formed (record {}) x
     → Lies ((record_of e).enc x) (encode y) a → after (told a x) (λ r. resulted (bytes_in (encode y) (part r))) ≡ says b x) where
   of_entry_lem : (i : ℕ) → StandsThere (kind_of_entry e) (of_entry e told i) part (of_entry e says i)
   unfolding after
   of_entry_lem i y o =
       let g = entries_stand e y o in
       nth_made (λ q. after q (λ r. resulted (bytes_in (encode y) (part r)))) (record_of e).enc told (refused 13) (begin_of e y) (entries_of e y) i
-      ∙ nth_said ((record_of e).Ok (record {})) (record_of e).enc (encode y) _ says (refused 13) (there y o) (begin_of e y) (begin_of e y) (entries_of e y) i
+      ∙ nth_said ((record_of e).Formed (record {})) (record_of e).enc (encode y) _ says (refused 13) (there y o) (begin_of e y) (begin_of e y) (entries_of e y) i
       g.good g.lies
 
 -- of value j of dimension i
 module _ (part : ValueTexts → Part) (of : ValueFields → text.Val)
-    (there : (y : Section Rrt) → WellFormed Rrt y → (a : ℕ) (v : ValueFields) → value_format.Ok (record {}) v → Lies (value_format.enc v) (encode y) a
+    (there : (y : Section Rrt) → WellFormed Rrt y → (a : ℕ) (v : ValueFields) → value_format.Formed (record {}) v → Lies (value_format.enc v) (encode y) a
     → bytes_in (encode y) (part (texts_for a v)) ≡ text.enc (of v)) where
   of_value_lem : (i j : ℕ) → StandsThere Rrt (value_told i j) part (of_entry Dimension (of_value (λ a v. resulted (text.enc (of v))) j) i)
   unfolding after
@@ -63,7 +63,7 @@ module _ (part : ValueTexts → Part) (of : ValueFields → text.Val)
       let z = encode_bytes Rrt y o in
       let g = (rrts.values_there s z d x p l (d + length (dimension_format.enc x)) (omega arith)).1 in
       nth_made (λ q. after q (λ r. resulted (bytes_in s (part r)))) value_format.enc (λ a v. resulted (texts_for a v)) (refused 13) (first_value_for d x) x.values j
-      ∙ nth_said (value_format.Ok (record {})) value_format.enc s _ (λ a v. resulted (text.enc (of v))) (refused 13)
+      ∙ nth_said (value_format.Formed (record {})) value_format.enc s _ (λ a v. resulted (text.enc (of v))) (refused 13)
       (λ a b v u m. ap resulted (there y o a v u m)) (first_value_for d x) (first_value_for b x) x.values j g.good
       (lies_at _ s _ _ (rrts.first_value_there s z d x p l) g.lies))
       i
@@ -79,7 +79,7 @@ of_descriptor i k = of_entry_lem Event (λ a e. or_none (descriptor_for content_
     let g = eits.descriptors_lie s z a e p l in
     let from = (descriptors_place a e).start in
     nth_made (λ q. after (or_none q) (λ d. resulted (bytes_in s (content_part d)))) (descriptor_bytes content_advisory)
-    (λ a d. some (record { tag = d.tag; start = a + 2; size = length (content_bytes content_advisory d) })) none from (descriptors_of content_advisory e.descs) k
+    (λ a d. Some (record { tag = d.tag; start = a + 2; size = length (content_bytes content_advisory d) })) None from (descriptors_of content_advisory e.descs) k
     ∙ content_lies s z resulted (refused 13) content_advisory from 0 e.descs g.0 g.1 k)
     i
 

@@ -26,7 +26,7 @@ use Rattle.section_laws.specs.Accepted.{Reads}
 use Rattle.section_laws.proofs.TableLaws.{spot_refused}
 
 -- of an event that lies at a
-module _ (s : List ℕ) (z : Bytes s) (a : ℕ) (e : EventFields) (o : event_format.Ok (record {}) e) (l : Lies (event_format.enc e) s a) where
+module _ (s : List ℕ) (z : Bytes s) (a : ℕ) (e : EventFields) (o : event_format.Formed (record {}) e) (l : Lies (event_format.enc e) s a) where
   rating_told_lem : (region dimension : ℕ) → rating_at s a region dimension ≡ rated_by region dimension (descriptors_of content_advisory e.descs)
   unfolding rating_at
   rating_told_lem region dimension =

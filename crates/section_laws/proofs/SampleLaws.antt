@@ -22,33 +22,33 @@ use Rattle.section.specs.Encoding.{Section, length_with, unsealed, body_bytes, W
 use Rattle.section_laws.specs.Samples.{nothing, no_strings, tea_segment, tea_string, tea, no_descriptors, region_one, advised, tea_channel, tea_event, dimension_of, named, section, bare, full}
 
 -- ---- their parts
-pub tea_ok : structure.Ok (record {}) tea
+pub tea_ok : structure.Formed (record {}) tea
 unfolding tea bytes_of
 tea_ok =
-    let g : segment.Ok (record {}) tea_segment = (omega arith, (omega arith, (refl, bytes_bytes 3 0x546561 (omega arith)))) in
-    let x : string.Ok (record {}) tea_string = (omega arith, (omega arith, (refl, (g, record {})))) in
+    let g : segment.Formed (record {}) tea_segment = (omega arith, (omega arith, (refl, bytes_bytes 3 0x546561 (omega arith)))) in
+    let x : string.Formed (record {}) tea_string = (omega arith, (omega arith, (refl, (g, record {})))) in
     (record {}, (omega arith, (refl, (x, record {}))))
 
-sized_tea_ok : (sized8 text).Ok (record {}) (record {}, as_text tea)
+sized_tea_ok : (sized8 text).Formed (record {}) (record {}, as_text tea)
 unfolding as_text tea bytes_of
 sized_tea_ok = (record {}, (omega arith, (refl, tea_ok)))
 
-advised_ok : (descriptors content_advisory).Ok (record {}) advised
+advised_ok : (descriptors content_advisory).Formed (record {}) advised
 unfolding advised as_text tea bytes_of
 advised_ok =
-    let g : region.Ok (record {}) region_one = (omega arith, sized_tea_ok) in
+    let g : region.Formed (record {}) region_one = (omega arith, sized_tea_ok) in
     ((omega arith, (omega arith, (refl, (refl, (omega arith, (omega arith, (refl, (g, record {})))))))), record {})
 
-dimension_ok : (t : text.Val) → (sized8 text).Ok (record {}) (record {}, t) → dimension_format.Ok (record {}) (dimension_of t)
+dimension_ok : (t : text.Val) → (sized8 text).Formed (record {}) (record {}, t) → dimension_format.Formed (record {}) (dimension_of t)
 dimension_ok t o = (o, (omega arith, (omega arith, (omega arith, (refl, ((o, o), record {}))))))
 
-named_ok : (t : text.Val) (more : List DimensionFields) → (sized8 text).Ok (record {}) (record {}, t) → All (dimension_format.Ok (record {})) more
-    → length more < 255 → (body_format Rrt).Ok (record {}) (named t more)
+named_ok : (t : text.Val) (more : List DimensionFields) → (sized8 text).Formed (record {}) (record {}, t) → All (dimension_format.Formed (record {})) more
+    → length more < 255 → (body_format Rrt).Formed (record {}) (named t more)
 unfolding no_descriptors
 named_ok t more o os h = (o, ((record {}, (omega (arith, h), (omega (arith, h), (refl, (dimension_ok t o, os))))), omega arith))
 
 -- ---- the records
-good : (k : Kind) (n : ℕ) (b : (body_format k).Val) → (body_format k).Ok (record {}) b
+good : (k : Kind) (n : ℕ) (b : (body_format k).Val) → (body_format k).Formed (record {}) b
     → (n < 65536) × (((limits_of k).smallest ≤ length_with (length ((body_format k).enc b))) × (length_with (length ((body_format k).enc b)) ≤ (limits_of k).largest))
     → WellFormed k (section n b)
 good k n b o h = record {
@@ -76,12 +76,12 @@ pub full_good : (k : Kind) → WellFormed k (full k)
 unfolding advised no_descriptors as_text tea bytes_of
 full_good Mgt = omega arith
 full_good Tvct =
-    let c : channel_format.Ok (record {}) tea_channel = (omega arith, omega arith) in
+    let c : channel_format.Formed (record {}) tea_channel = (omega arith, omega arith) in
     good Tvct 7 _ ((record {}, (omega arith, (refl, (c, record {})))), omega arith) (omega arith)
 full_good Rrt =
     good Rrt 7 _ (named_ok (as_text tea) (dimension_of (as_text tea) ∷ []) sized_tea_ok (dimension_ok (as_text tea) sized_tea_ok, record {}) (omega arith)) (omega arith)
 full_good Eit =
-    let v : event_format.Ok (record {}) (tea_event advised) = (omega arith, (sized_tea_ok, (omega arith, (omega arith, (refl, advised_ok))))) in
+    let v : event_format.Formed (record {}) (tea_event advised) = (omega arith, (sized_tea_ok, (omega arith, (omega arith, (refl, advised_ok))))) in
     good Eit 7 _ (record {}, (omega arith, (refl, (v, record {})))) (omega arith)
 full_good Ett = good Ett 7 _ (omega arith, tea_ok) (omega arith)
 

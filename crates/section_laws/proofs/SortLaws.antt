@@ -1,10 +1,10 @@
 -- A title among all titles: a text that is refused is refused by 10 or 11, so that each sort has a number of its own; and it is the text
 -- that is answered where that title is asked for alone.
+use Rattle.std.specs.Prelude.{None, Some}
 use Prim.Native.Nat.{ℕ}
 use mathlib.Core.Path.{◌≡◌, subst}
 use mathlib.Core.Logic.{◌⊎◌}
 use mathlib.Core.List.{List, [], ◌∷◌}
-use mathlib.Core.Option.{none, some}
 use native.Mathlib.Omega.{arith}
 use lib.ListN.{length}
 use lib.Seq.{take-length}
@@ -42,18 +42,18 @@ unfolding text_told
 told_fair (refused n) replaced k f e = let q : n ≡ k = cc in subst OfText q f
 told_fair (resulted us) replaced k f e = let z : ◌≡◌ {A = ℕ} 0 1 = cc in absurd (omega arith)
 
-text_sort : (t : text.Val) → text.Ok (record {}) t → (p : Part) (k : ℕ) → sort_told (title_for t p) t ≡ refused_title k → OfText k
+text_sort : (t : text.Val) → text.Formed (record {}) t → (p : Part) (k : ℕ) → sort_told (title_for t p) t ≡ refused_title k → OfText k
 unfolding text structure title_for sort_told strings_of
-text_sort none o p k e = let z : ◌≡◌ {A = ℕ} 0 1 = cc in absurd (omega arith)
-text_sort (some []) o p k e = let z : ◌≡◌ {A = ℕ} 0 1 = cc in absurd (omega arith)
-text_sort (some (x ∷ xs)) o p k e =
-    let t = some (x ∷ xs) in
+text_sort None o p k e = let z : ◌≡◌ {A = ℕ} 0 1 = cc in absurd (omega arith)
+text_sort (Some []) o p k e = let z : ◌≡◌ {A = ℕ} 0 1 = cc in absurd (omega arith)
+text_sort (Some (x ∷ xs)) o p k e =
+    let t = Some (x ∷ xs) in
     let f = text.enc t in
     let sound = (text.law laws (record {})).sound f (length f) 0 t o (take-length f) (omega arith) in
     told_fair (units_of (x ∷ xs) 0) (replaced_of (x ∷ xs) 0) k (subst Fair (units_is t o 0) (units_fair f (length f) 0 (length f) sound 0 (omega (arith, count_is t o)))) e
 
 -- of every event of a well-formed record
-pub title_sort_lem : (a : ℕ) (e : EventFields) → event_format.Ok (record {}) e → (k : ℕ) → title_record a e ≡ refused_title k → OfText k
+pub title_sort_lem : (a : ℕ) (e : EventFields) → event_format.Formed (record {}) e → (k : ℕ) → title_record a e ≡ refused_title k → OfText k
 title_sort_lem a e o k q =
     let s = event_format.enc e in
     text_sort e.title (title_lies s ((event_format.law laws (record {})).bytes e o) 0 e o (take-length s)).0 _ k q

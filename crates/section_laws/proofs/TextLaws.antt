@@ -40,7 +40,7 @@ use Rattle.section_laws.proofs.AskedLaws.{extended_asked, region_asked, dimensio
 
 -- ---- what is asked of a text's bytes, where that is told by its strings
 module _ {A : Type 0} (ask : List ℕ → Outcome A) (tell : List StringFields → Outcome A)
-    (same : (t : text.Val) → text.Ok (record {}) t → ask (text.enc t) ≡ tell (strings_of t)) where
+    (same : (t : text.Val) → text.Formed (record {}) t → ask (text.enc t) ≡ tell (strings_of t)) where
   -- of the field at a part of s
   abbrev asked : List ℕ → Part → Outcome A
   asked s p = ask (bytes_in s p)
@@ -48,7 +48,7 @@ module _ {A : Type 0} (ask : List ℕ → Outcome A) (tell : List StringFields �
   -- of entry i of a section
   module _ (e : Entry) (y : Section (kind_of_entry e)) (o : WellFormed (kind_of_entry e) y) (find : ℕ → Outcome Part)
       (told : ℕ → (record_of e).Val → Outcome (List StringFields))
-      (there : (a : ℕ) (x : (record_of e).Val) → (record_of e).Ok (record {}) x → Lies ((record_of e).enc x) (encode y) a
+      (there : (a : ℕ) (x : (record_of e).Val) → (record_of e).Formed (record {}) x → Lies ((record_of e).enc x) (encode y) a
       → a + length ((record_of e).enc x) ≤ length (encode y) - 4 → after (find a) (asked (encode y)) ≡ after (told a x) tell) where
     of_entry_lem : (i : ℕ) → after (after (spot_in e (encode y) i) find) (asked (encode y)) ≡ after (of_entry e told i y) tell
     unfolding after
@@ -59,7 +59,7 @@ module _ {A : Type 0} (ask : List ℕ → Outcome A) (tell : List StringFields �
 
   -- of value j of dimension i
   module _ (y : Section Rrt) (o : WellFormed Rrt y) (find : ℕ → Part) (of : ValueFields → text.Val)
-      (there : (a : ℕ) (v : ValueFields) → value_format.Ok (record {}) v → Lies (value_format.enc v) (encode y) a
+      (there : (a : ℕ) (v : ValueFields) → value_format.Formed (record {}) v → Lies (value_format.enc v) (encode y) a
       → asked (encode y) (find a) ≡ tell (strings_of (of v))) where
     abbrev told : ℕ → ValueFields → Outcome (List StringFields)
     told a v = resulted (strings_of (of v))

@@ -30,7 +30,8 @@ use Rattle.entry.specs.Entries.{entry_count}
 use Rattle.entry.specs.Records.{entries_of, begin_of}
 use Rattle.entry.proofs.RecordLaws.{count_there, entries_stand}
 use Rattle.section_text.specs.Fields.{title_field}
-use Rattle.titles.specs.Titles.{TitleTold, text_told, told_of, title_told, units_told, title_row, units_from, title_rows_from, first_event, Counts, room_for_titles, titles_in, titles_of, with_title_rows, with_units}
+use Rattle.titles.specs.Titles.{TitleTold, text_told, told_of, title_told, units_told, title_row, units_from, title_rows_from, first_event, room_for_titles, titles_in, titles_of, with_title_rows, with_units}
+use Rattle.titles.specs.declared.Counts.{Counts}
 use Rattle.section_laws.specs.Accepted.{Reads}
 use Rattle.section_laws.specs.Titled.{sort_told, title_record, title_units, title_rows_told, title_rows, titles_told}
 use Rattle.section_laws.specs.Rows.{stored_rows, Stores}
@@ -52,7 +53,7 @@ by_sort s NoStrings x e r = refl
 by_sort s (Text p) x e r = λ i. text_told (r i) (e i)
 
 module _ (s : List ℕ) (z : Bytes s) where
-  title_there : (a : ℕ) (e : EventFields) → event_format.Ok (record {}) e → Lies (event_format.enc e) s a → title_told s a ≡ title_record a e
+  title_there : (a : ℕ) (e : EventFields) → event_format.Formed (record {}) e → Lies (event_format.enc e) s a → title_told s a ≡ title_record a e
   unfolding title_told
   title_there a e o l =
       by_sort s (title_at s a) e.title (title_asked asked (λ ss. units_of ss 0) (λ t p. units_is t p 0) s z a e o l)

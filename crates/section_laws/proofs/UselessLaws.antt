@@ -26,9 +26,9 @@ use Rattle.section.specs.declared.header.Header.{Header}
 use Rattle.section.specs.Encoding.{Section, encode, WellFormed, header_of}
 use Rattle.section.proofs.EncodingLaws.{encode_bytes}
 use Rattle.entry.specs.Records.{kind_of_entry}
-use Rattle.rows.specs.declared.Row.{Row}
-use Rattle.rows.specs.declared.Row.TheVariants as row
-use Rattle.rows.specs.Rows.{entry_for, row_width, room_for_rows}
+use Rattle.entry.specs.declared.Entry.{Entry}
+use Rattle.entry.specs.declared.Entry.TheVariants as row
+use Rattle.rows.specs.Rows.{row_width, room_for_rows}
 use Rattle.section_text.specs.declared.field.Which.{Which}
 use Rattle.section_text.specs.declared.field.Which.TheVariants.{Title, Advisory, Extended, RegionName, DimensionName, ShortText, LongText}
 use Rattle.section_text.specs.Fields.{kind_for}
@@ -134,21 +134,21 @@ pub no_ett : Refuted Ett ett_told
 no_ett = apart Ett ett_told (λ t. t.etm_id) (λ e. omega arith)
 
 -- ---- the rows, where there is room for two: their number, and what a lent list of zeros holds afterwards
-pub no_row_count : (r : Row) → Refuted (kind_of_entry (entry_for r)) (count_told r (2 * row_width r))
+pub no_row_count : (r : Entry) → Refuted (kind_of_entry r) (count_told r (2 * row_width r))
 unfolding room_for_rows or_refuse
 no_row_count row.Table = apart Mgt _ (λ n. n) (λ e. omega arith)
 no_row_count row.Channel = apart Tvct _ (λ n. n) (λ e. omega arith)
 no_row_count row.Dimension = apart Rrt _ (λ n. n) (λ e. omega arith)
 no_row_count row.Event = apart Eit _ (λ n. n) (λ e. omega arith)
 
-abbrev pub room : Row → List ℕ
+abbrev pub room : Entry → List ℕ
 room r = replicate (2 * row_width r) 0
 
-abbrev pub stored_told : (r : Row) → List ℕ → Section (kind_of_entry (entry_for r)) → List ℕ
+abbrev pub stored_told : (r : Entry) → List ℕ → Section (kind_of_entry r) → List ℕ
 stored_told r out y = stored_rows out (rows_told r y) (count_told r (length out) y)
 
 -- the second number of the full record's first row is not 0
-row_differs : (r : Row) → byte_at (stored_told r (room r) (bare _)) 1 ≡ byte_at (stored_told r (room r) (full _)) 1 → ⊥
+row_differs : (r : Entry) → byte_at (stored_told r (room r) (bare _)) 1 ≡ byte_at (stored_told r (room r) (full _)) 1 → ⊥
 unfolding stored_rows room_for_rows or_refuse all_of part_row name_row tuning_row service_row numbers_row bytes_of nothing as_text
 row_differs row.Table e = omega arith
 row_differs row.Channel e = omega arith
@@ -156,10 +156,10 @@ row_differs row.Dimension e = omega arith
 row_differs row.Event e = omega arith
 
 -- so no writer that never changes the list
-pub no_rows : (r : Row) (writer : List ℕ → List ℕ → List ℕ) → Useless (kind_of_entry (entry_for r)) (writer (room r))
-    → Stores (kind_of_entry (entry_for r)) writer (stored_told r) → ⊥
+pub no_rows : (r : Entry) (writer : List ℕ → List ℕ → List ℕ) → Useless (kind_of_entry r) (writer (room r))
+    → Stores (kind_of_entry r) writer (stored_told r) → ⊥
 no_rows r writer u w =
-    let k = kind_of_entry (entry_for r) in
+    let k = kind_of_entry r in
     let e = sym (w.stores (room r) (bare k) (bare_good k)) ∙ u ∙ w.stores (room r) (full k) (full_good k) in
     row_differs r (ap (λ l. byte_at l 1) e)
 

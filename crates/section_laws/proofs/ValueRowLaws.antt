@@ -39,7 +39,7 @@ module _ (s : List ℕ) (z : Bytes s) (end : ℕ) where
       λ k. e k ++ u k
 
   -- ---- of a dimension that lies at d
-  module _ (d : ℕ) (x : DimensionFields) (o : dimension_format.Ok (record {}) x) (l : Lies (dimension_format.enc x) s d)
+  module _ (d : ℕ) (x : DimensionFields) (o : dimension_format.Formed (record {}) x) (l : Lies (dimension_format.enc x) s d)
       (inside : d + length (dimension_format.enc x) ≤ end) where
     dimension_there : (i : ℕ) → value_rows s i 0 (values_at s d) (first_value_at s d) ≡ dimension_rows_told i d x
     dimension_there i =

@@ -10,7 +10,8 @@ use Rattle.kind.specs.declared.Kind.TheVariants.{Mgt, Tvct, Rrt, Eit, Ett}
 use Rattle.kind.specs.Kinds.{only_of}
 use Rattle.format.specs.Repeats.{Bytes}
 use Rattle.strings.specs.Strings.{text, StringFields, strings_of}
-use Rattle.rating.specs.Values.{Rated, Descriptor}
+use Rattle.rating.specs.Values.{Rated}
+use Rattle.rating.specs.declared.Descriptor.{Descriptor}
 use Rattle.mgt.specs.declared.table.Table.{Table as MgtTable}
 use Rattle.mgt.specs.declared.defined.Defined.{Defined}
 use Rattle.channel.specs.declared.channel.Channel.{Channel}
@@ -57,8 +58,8 @@ NoNine k reader = (s : List ℕ) → Bytes s → (h : Header) → section_by (on
 
 -- a reader of a text field alone: 9 where its bytes are those of no text
 pub record ReadsText {A : Type 0} (reader : List ℕ → Outcome A) (tell : List StringFields → Outcome A) : Type 0 where
-  pub tells : (t : text.Val) → text.Ok (record {}) t → reader (text.enc t) ≡ tell (strings_of t)
-  pub refuses : (f : List ℕ) → Bytes f → ((t : text.Val) → text.Ok (record {}) t → f ≡ text.enc t → ⊥) → reader f ≡ refused 9
+  pub tells : (t : text.Val) → text.Formed (record {}) t → reader (text.enc t) ≡ tell (strings_of t)
+  pub refuses : (f : List ℕ) → Bytes f → ((t : text.Val) → text.Formed (record {}) t → f ≡ text.enc t → ⊥) → reader f ≡ refused 9
 
 -- ---- what is asked of sections and of texts: entry i, value j, string or descriptor k; a region and a dimension; the section or the field's bytes
 -- come last. `place` is where an advisory's text stands. Ours.antt says which definition is which, and Rows.antt has the calls that answer for all entries at once

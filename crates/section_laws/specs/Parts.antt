@@ -10,7 +10,8 @@ use Rattle.kind.specs.declared.Kind.TheVariants.{Mgt, Tvct, Rrt, Eit, Ett}
 use Rattle.format.specs.Listed.{nth_of}
 use Rattle.strings.specs.Strings.{text, structure}
 use Rattle.descriptor.specs.Descriptors.{DescriptorFields, descriptors, descriptors_of, descriptor_bytes, content_bytes, content_advisory, no_tag}
-use Rattle.rating.specs.Values.{Descriptor, text_by}
+use Rattle.rating.specs.Values.{text_by}
+use Rattle.rating.specs.declared.Descriptor.{Descriptor}
 use Rattle.eit.specs.Values.{title_place}
 use Rattle.section.specs.Encoding.{Section, encode, WellFormed}
 use Rattle.entry.specs.declared.Entry.TheVariants.{Table, Channel, Dimension, Event}

@@ -16,26 +16,27 @@ use Rattle.section.specs.Sections.{section_by}
 use Rattle.section.specs.Encoding.{Section, encode, WellFormed}
 use Rattle.entry.specs.declared.Entry.TheVariants.{Dimension}
 use Rattle.entry.specs.Records.{kind_of_entry, record_of, entries_of, begin_of}
-use Rattle.rows.specs.declared.Row.{Row}
-use Rattle.rows.specs.declared.Row.TheVariants as row
-use Rattle.rows.specs.Rows.{entry_for, row_width, room_for_rows, rows_of, with_rows}
+use Rattle.entry.specs.declared.Entry.{Entry}
+use Rattle.entry.specs.declared.Entry.TheVariants as row
+use Rattle.rows.specs.Rows.{row_width, room_for_rows, rows_of, with_rows}
 use Rattle.rows.specs.Values.{value_rows_of, with_value_rows}
-use Rattle.titles.specs.Titles.{Counts, titles_of, with_title_rows, with_units}
+use Rattle.titles.specs.Titles.{titles_of, with_title_rows, with_units}
+use Rattle.titles.specs.declared.Counts.{Counts}
 use Rattle.section_laws.specs.Titled.{title_units, title_rows, titles_told}
 use Rattle.section_laws.specs.Accepted.{Reads}
 
 -- ---- the rows of all entries: their number, or 12 where there is no room, and a lent list after they were stored
-abbrev pub row_told : (r : Row) → ℕ → (record_of (entry_for r)).Val → List ℕ
+abbrev pub row_told : (r : Entry) → ℕ → (record_of r).Val → List ℕ
 row_told row.Table a x = mgts.row_for a x
 row_told row.Channel a x = channels.row_for a x
 row_told row.Dimension d x = rrts.row_for d x
 row_told row.Event a x = eits.row_for a x
 
-abbrev pub rows_told : (r : Row) → Section (kind_of_entry (entry_for r)) → List ℕ
-rows_told r y = all_of (record_of (entry_for r)).enc (row_told r) (begin_of (entry_for r) y) (entries_of (entry_for r) y)
+abbrev pub rows_told : (r : Entry) → Section (kind_of_entry r) → List ℕ
+rows_told r y = all_of (record_of r).enc (row_told r) (begin_of r y) (entries_of r y)
 
-abbrev pub count_told : (r : Row) → ℕ → Section (kind_of_entry (entry_for r)) → Outcome ℕ
-count_told r room y = room_for_rows (row_width r) (length (entries_of (entry_for r) y)) room
+abbrev pub count_told : (r : Entry) → ℕ → Section (kind_of_entry r) → Outcome ℕ
+count_told r room y = room_for_rows (row_width r) (length (entries_of r y)) room
 
 unfoldable pub stored_rows : {A : Type 0} → List ℕ → List ℕ → Outcome A → List ℕ
 stored_rows l rows (refused n) = l
@@ -70,8 +71,8 @@ pub record Stores (k : Kind) (writer : List ℕ → List ℕ → List ℕ) (tell
 
 -- what is asked: of so much room in a lent list, or of the list itself as it was before (`before`); the section comes last
 pub record RowLibrary : Type 0 where
-  pub row_count : Row → (room : ℕ) → List ℕ → Outcome ℕ
-  pub rows : Row → (before : List ℕ) → List ℕ → List ℕ
+  pub row_count : Entry → (room : ℕ) → List ℕ → Outcome ℕ
+  pub rows : Entry → (before : List ℕ) → List ℕ → List ℕ
   pub value_row_count : (room : ℕ) → List ℕ → Outcome ℕ
   pub value_rows : (before : List ℕ) → List ℕ → List ℕ
   pub title_counts : (rows units : ℕ) → List ℕ → Outcome Counts
@@ -80,8 +81,8 @@ pub record RowLibrary : Type 0 where
 
 -- and what is promised
 pub record KeepsRows (l : RowLibrary) : Type 0 where
-  pub row_count : (r : Row) (room : ℕ) → Reads (kind_of_entry (entry_for r)) (l.row_count r room) (count_told r room)
-  pub rows : (r : Row) → Stores (kind_of_entry (entry_for r)) (l.rows r) (λ out y. stored_rows out (rows_told r y) (count_told r (length out) y))
+  pub row_count : (r : Entry) (room : ℕ) → Reads (kind_of_entry r) (l.row_count r room) (count_told r room)
+  pub rows : (r : Entry) → Stores (kind_of_entry r) (l.rows r) (λ out y. stored_rows out (rows_told r y) (count_told r (length out) y))
   pub value_row_count : (room : ℕ) → Reads Rrt (l.value_row_count room) (value_count_told room)
   pub value_rows : Stores Rrt l.value_rows (λ out y. stored_rows out (value_rows_told y) (value_count_told (length out) y))
   pub title_counts : (rows units : ℕ) → Reads Eit (l.title_counts rows units) (titles_told rows units)

@@ -1,8 +1,7 @@
 -- Two well-formed records of each kind: one with as little in it as its kind allows, and one with more entries and texts. What is told of
 -- the two differs for every sort of question, so each statement of Accepted.antt says something (proofs/).
-use Rattle.std.specs.Prelude.{ℕ, List, [], ◌∷◌}
+use Rattle.std.specs.Prelude.{ℕ, List, [], ◌∷◌, None}
 use Rattle.std.proofs.Common.{inl}
-use Rattle.std.proofs.Math.Option.{none}
 use Rattle.kind.specs.declared.Kind.{Kind}
 use Rattle.kind.specs.declared.Kind.TheVariants.{Mgt, Tvct, Rrt, Eit, Ett}
 use Rattle.strings.specs.Strings.{SegmentFields, StringFields, structure, text, as_text}
@@ -19,7 +18,7 @@ use Rattle.section_text.specs.declared.field.Which.TheVariants.{Title, Advisory,
 -- ---- texts: nothing; a structure of no strings; and "Tea" in English, one segment of plain bytes
 unfoldable pub nothing : text.Val
 unfolding text
-nothing = none
+nothing = None
 
 unfoldable pub no_strings : structure.Val
 unfolding structure

@@ -13,7 +13,8 @@ use Rattle.eit.specs.Values.{event_for, row_for}
 use Rattle.section.specs.Encoding.{Section}
 use Rattle.entry.specs.declared.Entry.TheVariants.{Event}
 use Rattle.entry.specs.Records.{entries_of, begin_of}
-use Rattle.titles.specs.Titles.{TitleTold, no_title, no_strings, text_told, units_told, title_row, Counts, room_for_titles}
+use Rattle.titles.specs.Titles.{TitleTold, no_title, no_strings, text_told, units_told, title_row, room_for_titles}
+use Rattle.titles.specs.declared.Counts.{Counts}
 
 -- ---- a title: by its sort, and the strings of its text
 unfoldable pub sort_told : Title → text.Val → TitleTold

@@ -1,13 +1,13 @@
 -- SCOPE 2 to 4: what is told of a section's record to each question. Places are offsets of its encoding.
-use Rattle.std.specs.Prelude.{ℕ, List}
-use Rattle.std.proofs.Math.Option.{Option, none, some}
+use Rattle.std.specs.Prelude.{ℕ, List, Option, None, Some}
 use Rattle.part.specs.declared.Part.{Part}
 use Rattle.refusal.specs.Outcomes.{Outcome, refused, resulted, or_none}
 use Rattle.kind.specs.declared.Kind.TheVariants.{Mgt, Tvct, Rrt, Eit, Ett}
 use Rattle.kind.specs.Kinds.{limits_of}
 use Rattle.strings.specs.Strings.{text, StringFields, strings_of, as_text}
 use Rattle.descriptor.specs.Descriptors.{descriptors_of, content_advisory}
-use Rattle.rating.specs.Values.{Rated, Descriptor, rated_by, text_by, text_place, descriptor_for}
+use Rattle.rating.specs.Values.{Rated, rated_by, text_by, text_place, descriptor_for}
+use Rattle.rating.specs.declared.Descriptor.{Descriptor}
 use Rattle.mgt.specs.declared.table.Table.{Table as MgtTable}
 use Rattle.mgt.specs.declared.defined.Defined.{Defined}
 use Rattle.mgt.specs.Values as mgts
@@ -82,8 +82,8 @@ ett_told y = resulted (etts.fields_for y.header.extension (limits_of Ett).body y
 
 -- ---- the strings of a text
 abbrev pub strings_in : Option text.Val → Outcome (List StringFields)
-strings_in none = refused 13
-strings_in (some t) = resulted (strings_of t)
+strings_in None = refused 13
+strings_in (Some t) = resulted (strings_of t)
 
 abbrev pub strings_told : (w : Which) → Section (kind_for w) → Outcome (List StringFields)
 strings_told (Title i) y = of_entry Event (λ a e. resulted (strings_of e.title)) i y

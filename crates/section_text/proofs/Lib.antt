@@ -1,4 +1,3 @@
 pub mod PlaceLaws
 pub mod AdvisoryLaws
 pub mod SoundLaws
-pub mod OnceLaws

@@ -6,7 +6,7 @@ use mathlib.Core.List.{List}
 use native.Mathlib.Omega.{arith}
 use lib.ListN.{length, take, drop}
 use lib.Seq.{take-length}
-use Rattle.bytes_at.specs.declared.Walk.TheVariants.{To}
+use Rattle.std.specs.Prelude.{Ok}
 use Rattle.refusal.specs.Outcomes.{resulted}
 use Rattle.kind.specs.Kinds.{only_of}
 use Rattle.format.proofs.KeptLaws.{laws}
@@ -38,10 +38,10 @@ judged_begun s (LongText i j) h e = judged_begins Dimension s h e
 -- the n bytes at a place are there, and are a sound text
 pub record SoundIn (s : List ℕ) (at n : ℕ) : Type 0 where
   pub there : at + n ≤ length s
-  pub sound : walks_all text s (at + n) at ≡ To (at + n)
+  pub sound : walks_all text s (at + n) at ≡ Ok (at + n)
 
 -- the text behind a length that is walked
-pub sized_sound : (s : List ℕ) (end at b : ℕ) → end ≤ length s → walks sized_text s end at ≡ To b
+pub sized_sound : (s : List ℕ) (end at b : ℕ) → end ≤ length s → walks sized_text s end at ≡ Ok b
     → SoundIn s (text_at s at).start (text_at s at).length
 unfolding text_at text_end
 sized_sound s end at b h w = record {
@@ -50,10 +50,10 @@ sized_sound s end at b h w = record {
 }
 
 pub cut_out : (s : List ℕ) (p : Part) → Bytes s → SoundIn s p.start p.length
-    → walks_all text (bytes_in s p) (length (bytes_in s p)) 0 ≡ To (length (bytes_in s p))
+    → walks_all text (bytes_in s p) (length (bytes_in s p)) 0 ≡ Ok (length (bytes_in s p))
 cut_out s p z g =
     let u = (text.law laws (record {})).complete s (p.start + p.length) p.start (omega arith) g.there z g.sound in
     let n : length (text.enc u.0) ≡ p.length = omega (arith, u.1.1.1) in
     let e : bytes_in s p ≡ text.enc u.0 = ap (λ k. take k (drop p.start s)) (sym n) ∙ u.1.1.0 in
-    subst (λ l. walks_all text l (length l) 0 ≡ To (length l)) (sym e)
+    subst (λ l. walks_all text l (length l) 0 ≡ Ok (length l)) (sym e)
     ((text.law laws (record {})).sound _ (length (text.enc u.0)) 0 u.0 u.1.0 (take-length (text.enc u.0)) (omega arith))

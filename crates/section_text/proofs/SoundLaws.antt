@@ -5,13 +5,12 @@ use mathlib.Core.Path.{◌≡◌, refl, sym, ap, ◌∙◌, subst}
 use mathlib.Core.Bool.{Bool, true, false}
 use mathlib.Core.Logic.{⊎_elim}
 use mathlib.Core.List.{List}
-use mathlib.Core.Option.{Option, none, some}
 use native.Mathlib.Nat.{eq-zero-or-pos}
 use native.Mathlib.Omega.{arith}
 use lib.Dec.{eqb, ltb}
 use lib.ListN.{length}
 use Rattle.logic.specs.Choices.{pick, if_eq}
-use Rattle.bytes_at.specs.declared.Walk.TheVariants.{To}
+use Rattle.std.specs.Prelude.{Ok, Option, None, Some}
 use Rattle.bytes_at.specs.Fields.{byte_at}
 use Rattle.bytes_at.specs.Inner.{Stands}
 use Rattle.refusal.specs.Outcomes.{Outcome, refused, resulted, after, or_refuse, or_none}
@@ -93,8 +92,8 @@ title_by s start n h = by (eqb n 0) (eqb n 1) (eqb (byte_at s start) 0)
     by false false v = h
 
 place_by : (s : List ℕ) (o : Option Part) (p : Part) → or_none o ≡ resulted p → SoundText s o → SoundField s p
-place_by s none p e g = not_both 13 p e
-place_by s (some t) p e g = answered s p _ e g
+place_by s None p e g = not_both 13 p e
+place_by s (Some t) p e g = answered s p _ e g
 
 module _ (s : List ℕ) (h : Header) (judged : section_by (only_of Eit) s ≡ resulted h) (i : ℕ) (p : Part) where
   of_title : title_in s i ≡ resulted p → SoundField s p
@@ -122,7 +121,7 @@ of_extended s h judged =
     let w = (section_sound Ett s h judged).1 in
     let t = body_text s (length s - 4) (limits_of Ett).body w.0 w.1 in
     let e : length s - 4 ≡ (extended_text_in s).start + (extended_text_in s).length = omega (arith, t.0) in
-    record { there = omega (arith, t.0); sound = subst (λ x. walks_all text s x (extended_text_in s).start ≡ To x) e t.1 }
+    record { there = omega (arith, t.0); sound = subst (λ x. walks_all text s x (extended_text_in s).start ≡ Ok x) e t.1 }
 
 -- ---- RRT
 module _ (s : List ℕ) (h : Header) (judged : section_by (only_of Rrt) s ≡ resulted h) where
@@ -210,8 +209,8 @@ value_not s h judged i j e =
     e)
 
 place_not : (o : Option Part) → or_none o ≡ refused 9 → ⊥
-place_not none = nine_not _ 13 refl (λ e. omega arith)
-place_not (some t) = result_not _ _ refl
+place_not None = nine_not _ 13 refl (λ e. omega arith)
+place_not (Some t) = result_not _ _ refl
 
 -- in a section that was judged the field is found, or there is no such text
 pub field_found : (s : List ℕ) (w : Which) (h : Header) → section_by (only_of (kind_for w)) s ≡ resulted h → field_in s w ≡ refused 9 → ⊥
@@ -238,7 +237,7 @@ no_heading : (l : List ℕ) (end at k : ℕ) → string_count l end at ≤ k →
 unfolding string_heading
 no_heading l end at k h = after_refused (string_at l end at k) _ 13 (sym (place_none l end at k h))
 
-module _ (l : List ℕ) (k : ℕ) (sound : walks_all text l (length l) 0 ≡ To (length l)) where
+module _ (l : List ℕ) (k : ℕ) (sound : walks_all text l (length l) 0 ≡ Ok (length l)) where
   units_not : string_units l (length l) 0 k ≡ refused 9 → ⊥
   units_not = ⊎_elim
       (λ h. nine_not _ 13 (none_there l (length l) 0 k (omega arith)) (λ e. omega arith))
@@ -253,7 +252,7 @@ module _ (l : List ℕ) (k : ℕ) (sound : walks_all text l (length l) 0 ≡ To 
 
 -- so what is read of a field that is there is refused by 9 only where finding the field is
 module _ (s : List ℕ) (w : Which) (k : ℕ) (z : Bytes s) where
-  cut_sound : (p : Part) → field_of s w ≡ resulted p → walks_all text (bytes_in s p) (length (bytes_in s p)) 0 ≡ To (length (bytes_in s p))
+  cut_sound : (p : Part) → field_of s w ≡ resulted p → walks_all text (bytes_in s p) (length (bytes_in s p)) 0 ≡ Ok (length (bytes_in s p))
   cut_sound p e = cut_out s p z (field_sound s w p e)
 
   pub no_nine : text_units s w k ≡ refused 9 → field_of s w ≡ refused 9

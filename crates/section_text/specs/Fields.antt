@@ -1,7 +1,6 @@
 -- SCOPE 2.3 to 2.7 and 4.2: the texts that a section has, and where each stands: 1 to 9, then 13 where its entry is not there.
 use Rattle.std.specs.Prelude.{ℕ, ◌-◌, List, length}
-use Rattle.refusal.specs.Numbers.{number_of}
-use Rattle.refusal.specs.Outcomes.{Outcome, refused, resulted, after, or_none}
+use Rattle.refusal.specs.Outcomes.{Outcome, resulted, after, or_none}
 use Rattle.kind.specs.declared.Kind.{Kind}
 use Rattle.kind.specs.declared.Kind.TheVariants.{Rrt, Eit, Ett}
 use Rattle.kind.specs.Kinds.{limits_of, only_of}
@@ -16,8 +15,6 @@ use Rattle.section.specs.Sections.{section_by}
 use Rattle.entry.specs.declared.Entry.TheVariants.{Event, Dimension}
 use Rattle.entry.specs.Entries.{spot_in, value_spot}
 use Rattle.strings.specs.Places.{text_at}
-use Rattle.section_text.specs.declared.field.Field.{Field}
-use Rattle.section_text.specs.declared.field.Field.TheVariants as fields
 use Rattle.section_text.specs.declared.field.Which.{Which}
 use Rattle.section_text.specs.declared.field.Which.TheVariants.{Title, Advisory, Extended, RegionName, DimensionName, ShortText, LongText}
 
@@ -76,7 +73,3 @@ field_in s (LongText i j) = long_text_in s i j
 -- ---- where the text asked for stands
 unfoldable pub field_of : List ℕ → Which → Outcome Part
 field_of s w = after (section_by (only_of (kind_for w)) s) (λ h. field_in s w)
-
-abbrev pub field_outcome : Field → Outcome Part
-field_outcome (fields.Refused k) = refused (number_of k)
-field_outcome (fields.At p) = resulted p

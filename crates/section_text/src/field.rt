@@ -1,22 +1,19 @@
 // Which texts a section has, and where each stands.
 ghost use Rattle.std.specs.Prelude.{◌≡◌};
-ghost use Rattle.refusal.specs.Outcomes.{or_none};
-ghost use Rattle.rating.specs.Ratings.{sought_text};
+ghost use Rattle.refusal.specs.Outcomes.{outcome};
 ghost use Rattle.entry.specs.declared.Entry.TheVariants.{Event, Dimension};
-ghost use Rattle.entry.specs.Entries.{spot_outcome};
 ghost use Rattle.entry.specs.Inner.{Begins, Inside};
-ghost use Rattle.section_text.specs.Fields.{kind_for, title_field, title_in, advisory_text_in, extended_text_in, region_name_in, dimension_name_in, value_in, short_text_in, long_text_in, field_in, field_of, field_outcome};
+ghost use Rattle.section_text.specs.Fields.{kind_for, title_field, title_in, advisory_text_in, extended_text_in, region_name_in, dimension_name_in, value_in, short_text_in, long_text_in, field_in, field_of};
 ghost use Rattle.section_text.specs.Inner.{Begun};
 
 use eit::{Title, advisory_text_at, title_at};
-use entry::{Entry, Spot, spot_in, value_spot};
+use entry::{Entry, spot_in, value_spot};
 use kind::Kind;
 use part::Part;
-use rating::SoughtText;
 use refusal::Refusal;
 use rrt::{dimension_at, texts_at};
 use section::inner::{body_end, body_start};
-use section::{Head, judge_kind};
+use section::judge_kind;
 use strings::text_at;
 
 // Which text of a section is asked for, its entries counted from 0.
@@ -36,24 +33,16 @@ pub enum Which {
     LongText(usize, usize),
 }
 
-// Where a text stands, or a refusal.
-#[derive(Clone, Copy)]
-pub enum Field {
-    Refused(Refusal),
-    At(Part),
-}
-
 fn kind_for(which: Which) -> Kind
     ensures { result ≡ kind_for which }
 {
     match which {
-        Which::Title(_i) => Kind::Eit,
-        Which::Advisory(_i, _region) => Kind::Eit,
+        Which::Title(_) | Which::Advisory(_, _) => Kind::Eit,
         Which::Extended => Kind::Ett,
-        Which::RegionName => Kind::Rrt,
-        Which::DimensionName(_i) => Kind::Rrt,
-        Which::ShortText(_i, _j) => Kind::Rrt,
-        Which::LongText(_i, _j) => Kind::Rrt,
+        Which::RegionName
+        | Which::DimensionName(_)
+        | Which::ShortText(_, _)
+        | Which::LongText(_, _) => Kind::Rrt,
     }
 }
 
@@ -62,11 +51,7 @@ fn title_field(t: Title) -> Part
     ensures { result ≡ title_field t }
 {
     match t {
-        Title::None => Part {
-            start: 0,
-            length: 0,
-        },
-        Title::NoStrings => Part {
+        Title::None | Title::NoStrings => Part {
             start: 0,
             length: 0,
         },
@@ -74,44 +59,26 @@ fn title_field(t: Title) -> Part
     }
 }
 
-fn title_in(s: &[u8], i: usize) -> Field
+fn title_in(s: &[u8], i: usize) -> Result<Part, Refusal>
     requires { Begins Event s.now }
-    ensures { field_outcome result ≡ title_in s.now i }
+    ensures { outcome result ≡ title_in s.now i }
 {
-    match spot_in(s, Entry::Event, i) {
-        Spot::Refused(k) => Field::Refused(k),
-        Spot::At(a) => Field::At(title_field(title_at(s, a))),
-    }
+    let a = spot_in(s, Entry::Event, i)?;
+    Ok(title_field(title_at(s, a)))
 }
 
-// 13 where no such text was found.
-fn place_field(found: SoughtText) -> Field
-    ensures { field_outcome result ≡ or_none (sought_text found) }
-{
-    match found {
-        SoughtText::Is { start, size } => Field::At(Part {
-            start,
-            length: size,
-        }),
-        SoughtText::Nothing => Field::Refused(Refusal::NoSuchEntry),
-    }
-}
-
-fn advisory_in(s: &[u8], i: usize, region: usize) -> Field
+fn advisory_in(s: &[u8], i: usize, region: usize) -> Result<Part, Refusal>
     requires { Begins Event s.now }
-    ensures { field_outcome result ≡ advisory_text_in s.now i region }
+    ensures { outcome result ≡ advisory_text_in s.now i region }
 {
-    match spot_in(s, Entry::Event, i) {
-        Spot::Refused(k) => Field::Refused(k),
-        Spot::At(a) => place_field(advisory_text_at(s, a, region)),
-    }
+    let a = spot_in(s, Entry::Event, i)?;
+    advisory_text_at(s, a, region).ok_or(Refusal::NoSuchEntry)
 }
 
 fn extended_in(s: &[u8]) -> Part
     ensures { result ≡ extended_text_in s.now }
 {
-    let table = ett::fields_at(s, 0, body_start(Kind::Ett), body_end(s));
-    table.text
+    ett::fields_at(s, 0, body_start(Kind::Ett), body_end(s)).text
 }
 
 fn region_in(s: &[u8]) -> Part
@@ -121,69 +88,49 @@ fn region_in(s: &[u8]) -> Part
     text_at(s, body_start(Kind::Rrt))
 }
 
-fn dimension_in(s: &[u8], i: usize) -> Field
+fn dimension_in(s: &[u8], i: usize) -> Result<Part, Refusal>
     requires { Begins Dimension s.now }
-    ensures { field_outcome result ≡ dimension_name_in s.now i }
+    ensures { outcome result ≡ dimension_name_in s.now i }
 {
-    match spot_in(s, Entry::Dimension, i) {
-        Spot::Refused(k) => Field::Refused(k),
-        Spot::At(d) => {
-            let dimension = dimension_at(s, d);
-            let p = dimension.name;
-            Field::At(p)
-        }
-    }
+    let d = spot_in(s, Entry::Dimension, i)?;
+    Ok(dimension_at(s, d).name)
 }
 
 // Where value j of dimension i begins.
-fn value_in(s: &[u8], i: usize, j: usize) -> Spot
+fn value_in(s: &[u8], i: usize, j: usize) -> Result<usize, Refusal>
     requires { Begins Dimension s.now }
-    ensures { (spot_outcome result ≡ value_in s.now i j) × Inside s.now result }
+    ensures { (outcome result ≡ value_in s.now i j) × Inside s.now result }
 {
-    match spot_in(s, Entry::Dimension, i) {
-        Spot::Refused(k) => Spot::Refused(k),
-        Spot::At(d) => value_spot(s, d, j),
-    }
+    let d = spot_in(s, Entry::Dimension, i)?;
+    value_spot(s, d, j)
 }
 
-fn short_in(s: &[u8], i: usize, j: usize) -> Field
+fn short_in(s: &[u8], i: usize, j: usize) -> Result<Part, Refusal>
     requires { Begins Dimension s.now }
-    ensures { field_outcome result ≡ short_text_in s.now i j }
+    ensures { outcome result ≡ short_text_in s.now i j }
 {
-    match value_in(s, i, j) {
-        Spot::Refused(k) => Field::Refused(k),
-        Spot::At(a) => {
-            let texts = texts_at(s, a);
-            let p = texts.short_text;
-            Field::At(p)
-        }
-    }
+    let a = value_in(s, i, j)?;
+    Ok(texts_at(s, a).short_text)
 }
 
-fn long_in(s: &[u8], i: usize, j: usize) -> Field
+fn long_in(s: &[u8], i: usize, j: usize) -> Result<Part, Refusal>
     requires { Begins Dimension s.now }
-    ensures { field_outcome result ≡ long_text_in s.now i j }
+    ensures { outcome result ≡ long_text_in s.now i j }
 {
-    match value_in(s, i, j) {
-        Spot::Refused(k) => Field::Refused(k),
-        Spot::At(a) => {
-            let texts = texts_at(s, a);
-            let p = texts.long_text;
-            Field::At(p)
-        }
-    }
+    let a = value_in(s, i, j)?;
+    Ok(texts_at(s, a).long_text)
 }
 
 // Where the text asked for stands in a section that was judged: 13 for its entry.
-pub fn field_in(s: &[u8], which: Which) -> Field
+pub fn field_in(s: &[u8], which: Which) -> Result<Part, Refusal>
     requires { Begun s.now which }
-    ensures { field_outcome result ≡ field_in s.now which }
+    ensures { outcome result ≡ field_in s.now which }
 {
     match which {
         Which::Title(i) => title_in(s, i),
         Which::Advisory(i, region) => advisory_in(s, i, region),
-        Which::Extended => Field::At(extended_in(s)),
-        Which::RegionName => Field::At(region_in(s)),
+        Which::Extended => Ok(extended_in(s)),
+        Which::RegionName => Ok(region_in(s)),
         Which::DimensionName(i) => dimension_in(s, i),
         Which::ShortText(i, j) => short_in(s, i, j),
         Which::LongText(i, j) => long_in(s, i, j),
@@ -191,11 +138,9 @@ pub fn field_in(s: &[u8], which: Which) -> Field
 }
 
 // Where the text asked for stands: 1 to 9, then 13 for its entry.
-pub fn field_of(s: &[u8], which: Which) -> Field
-    ensures { field_outcome result ≡ field_of s.now which }
+pub fn field_of(s: &[u8], which: Which) -> Result<Part, Refusal>
+    ensures { outcome result ≡ field_of s.now which }
 {
-    match judge_kind(s, kind_for(which)) {
-        Head::Refused(k) => Field::Refused(k),
-        Head::Passes(_h) => field_in(s, which),
-    }
+    judge_kind(s, kind_for(which))?;
+    field_in(s, which)
 }

@@ -9,8 +9,7 @@ use Rattle.annex_c.specs.Codes.{Reading, early}
 use Rattle.segment.specs.Bits.{all_bits, number_of_bits}
 use Rattle.segment.specs.Inner.{units, SymbolAt, Finds, answer, PairOutcome, CodedAt, RawAt}
 use Rattle.segment.specs.Segment.{ended_text, cut_text, coded_text, raw_text}
-use Rattle.segment.specs.declared.ReadSymbol.{ReadSymbol}
-use Rattle.segment.specs.declared.ReadSymbol.TheVariants.{Symbol, Early}
+use Rattle.std.specs.Prelude.{Option, Some, None}
 use Rattle.segment.proofs.BitLaws.{length_bits}
 use Rattle.segment.proofs.TextLaws.{unit_stored}
 use Rattle.segment.proofs.SegmentLaws.{ended_fits, cut_fits, coded_cut, coded_end, coded_escape, coded_character, raw_missing, raw_above, raw_plain, coded_none, raw_none, coded_step, raw_step}
@@ -26,13 +25,13 @@ ended_out : (n r m : ℕ) (l : List ℕ) → r ≡ answer n (ended_text m) → P
 ended_out n r m l e = record { answers = e; stores = rw (ended_fits m 0).1 }
 
 -- what a find of this shape says
-pub found_early : (read : ℕ → List ℕ → Reading) (s : List ℕ) (at p : ℕ) {f : ReadSymbol} → Finds read s at p f → f ≡ Early → read p
+pub found_early : (read : ℕ → List ℕ → Reading) (s : List ℕ) (at p : ℕ) {f : Option (ℕ × ℕ)} → Finds read s at p f → f ≡ None → read p
     (drop at (all_bits s)) ≡ early
-found_early read s at p z e = subst (λ (g : ReadSymbol). Finds read s at p g) e z
+found_early read s at p z e = subst (λ (g : Option (ℕ × ℕ)). Finds read s at p g) e z
 
-pub found_symbol : (read : ℕ → List ℕ → Reading) (s : List ℕ) (at p : ℕ) {f : ReadSymbol} {u j : ℕ} → Finds read s at p f → f ≡ Symbol u j
+pub found_symbol : (read : ℕ → List ℕ → Reading) (s : List ℕ) (at p : ℕ) {f : Option (ℕ × ℕ)} {u j : ℕ} → Finds read s at p f → f ≡ Some (u, j)
     → SymbolAt read s at p u j
-found_symbol read s at p z e = subst (λ (g : ReadSymbol). Finds read s at p g) e z
+found_symbol read s at p z e = subst (λ (g : Option (ℕ × ℕ)). Finds read s at p g) e z
 
 -- a coded symbol that the bits cut
 pub coded_early : {read : ℕ → List ℕ → Reading} {s : List ℕ} {at p n r : ℕ} {l : List ℕ}

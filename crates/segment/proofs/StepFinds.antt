@@ -11,15 +11,14 @@ use Rattle.steps.specs.Reaches.{Stepping}
 use Rattle.steps.proofs.StepLaws.{stepping}
 use Rattle.segment.specs.Bits.{all_bits}
 use Rattle.segment.specs.Inner.{Window, on_from, SymbolAt, Finds}
-use Rattle.segment.specs.declared.ReadSymbol.{ReadSymbol}
-use Rattle.segment.specs.declared.ReadSymbol.TheVariants.{Symbol, Early}
+use Rattle.std.specs.Prelude.{Option, Some, None}
 use Rattle.segment.proofs.BitLaws.{length_bits}
 
 module _ (t s : List ℕ) (at p e : ℕ) (step : Stepping (tree t p) (all_bits s) at e) where
-  pub step_rest : e < 2048 → (f : ReadSymbol) → Finds (on_from t (e / 16)) s (at + e % 16) p f → Finds (walked t) s at p f
+  pub step_rest : e < 2048 → (f : Option (ℕ × ℕ)) → Finds (on_from t (e / 16)) s (at + e % 16) p f → Finds (walked t) s at p f
   unfolding walked
-  step_rest h Early r = step.reach.node (omega arith) ∙ r
-  step_rest h (Symbol u j) r = record {
+  step_rest h None r = step.reach.node (omega arith) ∙ r
+  step_rest h (Some (u, j)) r = record {
     reads = step.reach.node (omega arith) ∙ r.reads;
     onward = omega (arith, r.onward);
     inside = r.inside;

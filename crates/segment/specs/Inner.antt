@@ -1,15 +1,12 @@
 -- What the inner functions of a segment promise: a find, and the pair's outcome as one number and one array.
-use Rattle.std.specs.Prelude.{◌≡◌, ℕ, ◌+◌, ◌*◌, ◌-◌, ◌/◌, ◌%◌, ◌^◌, ◌<◌, ◌≤◌, List, [], ◌∷◌, length, get_or, drop}
+use Rattle.std.specs.Prelude.{◌≡◌, ℕ, ◌+◌, ◌*◌, ◌-◌, ◌/◌, ◌%◌, ◌^◌, ◌<◌, ◌≤◌, List, [], ◌∷◌, Option, Some, None, length, get_or, drop}
 use Rattle.std.proofs.lemmas.List.Edits.{sets}
 use Rattle.annex_c.specs.Codes.{Reading, symbol, early}
 use Rattle.annex_c.specs.Tree.{tree, walk}
 use Rattle.segment.specs.Bits.{all_bits}
 use Rattle.segment.specs.Text.{Text, done, stopped, unit}
 use Rattle.segment.specs.Segment.{coded_text, raw_text}
-use Rattle.segment.specs.declared.ReadSymbol.{ReadSymbol}
-use Rattle.segment.specs.declared.ReadSymbol.TheVariants.{Symbol, Early}
-use Rattle.segment.specs.declared.Judged.{Judged}
-use Rattle.segment.specs.declared.Judged.TheVariants.{Units, Refused}
+use Rattle.refusal.specs.Outcomes.{Outcome, refused, resulted}
 
 -- ---- a text as its judge and its reader see it
 -- the units of a text, as far as it goes
@@ -19,9 +16,9 @@ units (stopped k) = []
 units (unit u x) = u ∷ units x
 
 -- the answer, where n units stand before it
-unfoldable pub judged_text : ℕ → Text → Judged
-judged_text n done = Units n
-judged_text n (stopped k) = Refused k
+unfoldable pub judged_text : ℕ → Text → Outcome ℕ
+judged_text n done = resulted n
+judged_text n (stopped k) = refused k
 judged_text n (unit u x) = judged_text (n + 1) x
 
 -- ---- finding a symbol
@@ -40,10 +37,10 @@ pub record SymbolAt (read : ℕ → List ℕ → Reading) (s : List ℕ) (at p u
   pub onward : at < next
   pub inside : next ≤ 8 * length s
 
--- what a find says
-abbrev pub Finds : (ℕ → List ℕ → Reading) → List ℕ → ℕ → ℕ → ReadSymbol → Type 0
-Finds read s at p Early = read p (drop at (all_bits s)) ≡ early
-Finds read s at p (Symbol u next) = SymbolAt read s at p u next
+-- what a find says: the symbol and the place of the bit after it, or nothing where the bits end early
+abbrev pub Finds : (ℕ → List ℕ → Reading) → List ℕ → ℕ → ℕ → Option (ℕ × ℕ) → Type 0
+Finds read s at p None = read p (drop at (all_bits s)) ≡ early
+Finds read s at p (Some (u, next)) = SymbolAt read s at p u next
 
 -- ---- the pair that hands over
 -- the place after the last unit, where n units stand before, or 4096 and a refusal's number
@@ -74,4 +71,4 @@ pub record Room (s : List ℕ) (at n : ℕ) : Type 0 where
 -- ---- writing
 -- the output l with the units of x stored from place n on, those that have room; a refusal stores none
 unfoldable pub written : List ℕ → ℕ → Text → List ℕ
-written l n x = elim (judged_text 0 x) [ Units k ↦ sets l n (units x) | Refused k ↦ l ]
+written l n x = elim (judged_text 0 x) [ resulted k ↦ sets l n (units x) | refused k ↦ l ]

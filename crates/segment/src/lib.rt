@@ -1,5 +1,5 @@
 // One compressed segment of annex C, of a title or of a description. The reading of a coded symbol and of a raw character are
-// two functions that call each other along the bits. They answer a number and store into an array of fixed size: an enum as the
+// two functions that call each other along the bits. They answer a number and store into an array of fixed size: a Result as the
 // answer, or a lent slice, would keep the compiler from making jumps of the calls.
 //
 // A segment has at most 255 bytes, since its number_bytes is one byte, and each unit takes a bit or more: 2,040 units have room.
@@ -11,28 +11,16 @@ ghost use Rattle.std.specs.Prelude.{◌≡◌, ◌+◌, ◌*◌, ◌<◌, ◌≤
 ghost use Rattle.annex_c.specs.Tree.{tree, walked};
 ghost use Rattle.trees.specs.Which.{table_of};
 ghost use Rattle.steps.specs.Reaches.{Stepping};
+ghost use Rattle.refusal.specs.Outcomes.{outcome};
 ghost use Rattle.segment.specs.Bits.{all_bits, number_of_bits};
 ghost use Rattle.segment.specs.Inner.{judged_text, written, Window, on_from, Finds, answer, PairOutcome, CodedAt, RawAt, Room};
 ghost use Rattle.segment.specs.Segment.{ended_text, cut_text, segment_text};
 
 use crate::inner::copy;
 use bytes_at::byte;
+use refusal::Refusal;
 use steps::step_of;
 use trees::{byte_of, root_of};
-
-// What a segment holds: so many units, or the refusal's number.
-#[derive(Clone, Copy)]
-pub enum Judged {
-    Units(usize),
-    Refused(u8),
-}
-
-// A coded symbol and the place of the bit after it, or bits that end early.
-#[derive(Clone, Copy)]
-enum ReadSymbol {
-    Symbol(u8, usize),
-    Early,
-}
 
 // The pair answers how many units there are, or 4096 and the refusal's number: 11 for broken text.
 const BROKEN: usize = 4107;
@@ -59,28 +47,26 @@ fn eight_at(s: &[u8], at: usize) -> u8
     window(s, at) as u8
 }
 
-// What is left of a coded symbol: from the node `first` of its tree on, at bit `from`.
-fn rest_at(titles: bool, s: &[u8], from: usize, prior: u8, first: usize) -> ReadSymbol
+// What is left of a coded symbol: from the node `first` of its tree on, at bit `from`. The symbol and the place of the bit after it,
+// or nothing where the bits end early.
+fn rest_at(titles: bool, s: &[u8], from: usize, prior: u8, first: usize) -> Option<(u8, usize)>
     requires { (length s.now ≤ 255) × (first < 128) }
     ensures { Finds (on_from (table_of titles) first) s.now from prior result }
 {
-    let total = 8 * s.len();
     let base = root_of(titles, prior);
-    let mut i = from;
     let mut node = first;
-    while i < total {
+    for i in from..8 * s.len() {
         let v = byte_of(titles, base + (2 * node + bit_at(s, i)));
-        i += 1;
         if 128 <= v {
-            return ReadSymbol::Symbol((v - 128) as u8, i);
+            return Some(((v - 128) as u8, i + 1));
         }
         node = v;
     }
-    ReadSymbol::Early
+    None
 }
 
 // One coded symbol, from bit `at` on: where the step e leads, and the rest of a longer code by the tree.
-fn step_at(titles: bool, s: &[u8], at: usize, prior: u8, e: usize) -> ReadSymbol
+fn step_at(titles: bool, s: &[u8], at: usize, prior: u8, e: usize) -> Option<(u8, usize)>
     requires { (length s.now ≤ 255) × (at ≤ 8 * length s.now) × Stepping (tree (table_of titles) prior) (all_bits s.now) at e }
     ensures { Finds (walked (table_of titles)) s.now at prior result }
 {
@@ -89,26 +75,19 @@ fn step_at(titles: bool, s: &[u8], at: usize, prior: u8, e: usize) -> ReadSymbol
         return rest_at(titles, s, next, prior, e / 16);
     }
     if 8 * s.len() < next {
-        return ReadSymbol::Early;
+        return None;
     }
     let symbol = (e / 16 % 128) as u8;
-    ReadSymbol::Symbol(symbol, next)
+    Some((symbol, next))
 }
 
 // One coded symbol, from bit `at` on.
-fn symbol_at(titles: bool, s: &[u8], at: usize, prior: u8) -> ReadSymbol
+fn symbol_at(titles: bool, s: &[u8], at: usize, prior: u8) -> Option<(u8, usize)>
     requires { (length s.now ≤ 255) × (at ≤ 8 * length s.now) }
     ensures { Finds (walked (table_of titles)) s.now at prior result }
 {
     let e = step_of(titles, 16 * (prior as usize) + window(s, at) / 16);
     step_at(titles, s, at, prior, e)
-}
-
-// A symbol as a unit.
-fn wide(x: u8) -> u16
-    ensures { result ≡ x }
-{
-    x as u16
 }
 
 // The end of a segment, with so many bits following it.
@@ -120,6 +99,7 @@ fn ended(following: usize, n: usize) -> usize
 }
 
 // The bits end inside a symbol that began with so many bits left: broken text, however many.
+#[tactic(auto, unfolding(crate::specs::Inner::answer, crate::specs::Segment::cut_text))]
 fn cut(left: usize, n: usize) -> usize
     ensures { result ≡ answer n (cut_text left) }
 {
@@ -133,8 +113,7 @@ fn coded(titles: bool, s: &&[u8], at: usize, prior: u8, out: &mut [u16; 2040], n
     ensures { CodedAt (walked (table_of titles)) s.now.now at prior n out.old result out.new }
 {
     let total = 8 * (*s).len();
-    let f = symbol_at(titles, *s, at, prior);
-    let ReadSymbol::Symbol(u, next) = f else {
+    let Some((u, next)) = symbol_at(titles, *s, at, prior) else {
         return cut(total - at, n);
     };
     if u == 0 {
@@ -143,7 +122,7 @@ fn coded(titles: bool, s: &&[u8], at: usize, prior: u8, out: &mut [u16; 2040], n
     if u == 27 {
         return raw(titles, s, next, total - at, out, n);
     }
-    out[n] = wide(u);
+    out[n] = u16::from(u);
     coded(titles, s, next, u, out, n + 1)
 }
 
@@ -160,7 +139,7 @@ fn raw(titles: bool, s: &&[u8], at: usize, left: usize, out: &mut [u16; 2040], n
     if 127 < c {
         return BROKEN;
     }
-    out[n] = wide(c);
+    out[n] = u16::from(c);
     coded(titles, s, at + 8, c, out, n + 1)
 }
 
@@ -173,29 +152,29 @@ pub fn read(titles: bool, s: &[u8], out: &mut [u16; 2040], n: usize) -> usize
 }
 
 // How many units the segment s holds, or its refusal.
-pub fn judge(titles: bool, s: &[u8]) -> Judged
+pub fn judge(titles: bool, s: &[u8]) -> Result<usize, Refusal>
     requires { length s.now ≤ 255 }
-    ensures { result ≡ judged_text 0 (segment_text (walked (table_of titles)) s.now) }
+    ensures { outcome result ≡ judged_text 0 (segment_text (walked (table_of titles)) s.now) }
 {
     let mut o = [0u16; 2040];
     let r = coded(titles, &s, 0, 0, &mut o, 0);
     if r < 4096 {
-        return Judged::Units(r);
+        return Ok(r);
     }
-    Judged::Refused(11)
+    Err(Refusal::BrokenText)
 }
 
 // The same, with the units written from place n of the output on, those that have room. A refusal writes none.
-pub fn write(titles: bool, s: &[u8], out: &mut [u16], n: usize) -> Judged
+pub fn write(titles: bool, s: &[u8], out: &mut [u16], n: usize) -> Result<usize, Refusal>
     requires { length s.now ≤ 255 }
-    ensures judges { result ≡ judged_text 0 (segment_text (walked (table_of titles)) s.now) }
+    ensures judges { outcome result ≡ judged_text 0 (segment_text (walked (table_of titles)) s.now) }
     ensures writes { out.new ≡ written out.old n (segment_text (walked (table_of titles)) s.now) }
 {
     let mut o = [0u16; 2040];
     let r = coded(titles, &s, 0, 0, &mut o, 0);
     if r < 4096 {
         copy(&o, r, out, n);
-        return Judged::Units(r);
+        return Ok(r);
     }
-    Judged::Refused(11)
+    Err(Refusal::BrokenText)
 }

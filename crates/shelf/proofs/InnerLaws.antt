@@ -1,9 +1,9 @@
 -- Questions to a watch by its record: the lowest number that it lacks, and that the bytes handed back are those of the view.
+use Rattle.std.specs.Prelude.{None, Some}
 use Prim.Native.Nat.{◌+◌, ◌<◌, ℕ}
 use mathlib.Core.Path.{◌∙◌, ◌≡◌, ap, sym}
 use mathlib.Core.Bool.{Bool, false, not, true}
 use mathlib.Core.List.{List, []}
-use mathlib.Core.Option.{none, some}
 use native.Mathlib.Omega.{arith}
 use Rattle.logic.proofs.LoopLaws.{first_at, first_none}
 use Rattle.logic.specs.Choices.{pick}
@@ -28,11 +28,11 @@ module _ (s : Shelf) (w n : ℕ) (e : n ≡ (watch_at s w).edition.last + 1) whe
       ∙ ap (λ (k : ℕ). first k (λ i. not (is_held s w i))) e
 
 -- what a view keeps under a number is handed back
-pub kept_view : (s : Shelf) (area : List ℕ) (w m : ℕ) (k : Kept) → kept_at s area w m ≡ some k → kept_bytes s area w m ≡ k.bytes
+pub kept_view : (s : Shelf) (area : List ℕ) (w m : ℕ) (k : Kept) → kept_at s area w m ≡ Some k → kept_bytes s area w m ≡ k.bytes
 unfolding kept_at kept_bytes at_first
 kept_view s area w m k = go (is_held s w m)
   where
-    go : (b : Bool) → pick b (some (record { bytes = bytes_at area (place_of s w m) (place_at s (place_of s w m)).length })) none ≡ some k
+    go : (b : Bool) → pick b (Some (record { bytes = bytes_at area (place_of s w m) (place_at s (place_of s w m)).length })) None ≡ Some k
         → pick b (bytes_at area (place_of s w m) (place_at s (place_of s w m)).length) [] ≡ k.bytes
     go true e = let f : record { bytes = bytes_at area (place_of s w m) (place_at s (place_of s w m)).length } ≡ k = cc in ap (λ (x : Kept). x.bytes) f
     go false e = let z : ◌≡◌ {A = ℕ} 0 1 = cc in absurd (omega arith)

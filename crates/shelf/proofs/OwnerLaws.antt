@@ -18,7 +18,6 @@ use Rattle.shelf_state.specs.Records.{blank_watch, is_of, watch_at}
 use Rattle.shelf_state.specs.Searches.{watch_in, drop_below, dropped, find_watch, set_place, set_watch, watch_of, watched}
 use Rattle.shelf_state.specs.Rules.{obeys}
 use Rattle.shelf_state.specs.declared.records.Asked.{Asked}
-use Rattle.shelf_state.specs.declared.records.Edition.{Edition}
 use Rattle.shelf_state.specs.declared.records.Place.{Place}
 use Rattle.shelf_state.specs.declared.records.Shelf.{Shelf}
 use Rattle.shelf_state.specs.declared.records.Watch.{Watch}
@@ -26,7 +25,7 @@ use Rattle.refusal.proofs.OutcomeLaws.{not_both, same_result}
 use Rattle.shelf.proofs.EditLaws.{Edited, edited_facts, hearing_same}
 use Rattle.shelf.proofs.PlaceLaws.{place_below}
 use Rattle.shelf.specs.Answers.{After}
-use Rattle.shelf.specs.Calls.{answered, refused_with}
+use Rattle.shelf.specs.Calls.{answered}
 use Rattle.shelf.specs.Inner.{Ready, Sound, dropped_below}
 use Rattle.shelf.specs.Delivery.{area_after, edited, for_owner, hearing, keeping, owner_in, place_for, quiet, received, received_at, stored}
 use Rattle.shelf.specs.Views.{same_edition}
@@ -117,14 +116,6 @@ module _ (s : Shelf) (w : ℕ) (h : Header) (area n : ℕ) (x : Ready s w h area
       let g : i ≡ place_for t w h.number = f ∙ ap (λ (y : Shelf). place_for y w h.number) e in
       (omega (arith, g, ready_place, ready_edited.count_same, r.size.count_64), omega (arith, g, ready_place, ready_edited.count_same, r.size.area_is, x.sound.size))
 
-pub below_count : (e : Edition) (h : Header) (k n : ℕ) → n ≡ dropped_below e h k → n ≤ k
-unfolding dropped_below
-below_count e h k n q = go (same_edition e h) q
-  where
-    go : (b : Bool) → n ≡ pick b 0 k → n ≤ k
-    go true f = omega (arith, f)
-    go false f = omega (arith, f)
-
 -- the edition as the code changes it: the record is written, and of another edition every place is searched
 pub edited_by_lem : (s : Shelf) (w : ℕ) (h : Header) (y : Watch) (n : ℕ) → y ≡ hearing (watch_at s w) h → n ≡ dropped_below (watch_at s w).edition h s.count
     → drop_below (set_watch s w y) w n ≡ edited s w h
@@ -142,10 +133,6 @@ edited_by_lem s w h y n e f =
         ∙ ap (λ (l : List Watch). record { watches = l; records = s.records; places = s.places; count = s.count }) (set-get_or s.watches w blank_watch)
 
 -- ---- what a delivery comes to
-pub for_refused : (s : Shelf) (a : Asked) (h : Header) (n k : ℕ) → owner_in s.watches s.records a h ≡ refused k → received s a h n ≡ refused_with k s
-unfolding received for_owner
-for_refused s a h n k e = ap (for_owner s h n) e
-
 pub for_owner_lem : (s : Shelf) (a : Asked) (h : Header) (n w : ℕ) → owner_in s.watches s.records a h ≡ resulted w
     → received s a h n ≡ received_at s w h n
 unfolding received for_owner
@@ -166,17 +153,6 @@ area_refused area b o k e = sym (ap (area_after area b) e)
 pub area_at : (area b : List ℕ) (o : Outcome ℕ) (i : ℕ) → o ≡ resulted i → paste area (i * 4096) b (length b) ≡ area_after area b o
 unfolding area_after
 area_at area b o i e = sym (ap (area_after area b) e)
-
--- a section that is received has its place's bytes in the area
-pub place_fits : (s : Shelf) (area : ℕ) (a : Asked) (h : Header) (n i : ℕ) → obeys s area ≡ true → Sound h n → (received s a h n).outcome ≡ resulted i
-    → i * 4096 + n ≤ area
-unfolding received for_owner received_at
-place_fits s area a h n i o z e = go (owner_in s.watches s.records a h) refl e
-  where
-    go : (x : Outcome ℕ) → owner_in s.watches s.records a h ≡ x → (for_owner s h n x).outcome ≡ resulted i → i * 4096 + n ≤ area
-    go (refused k) f g = not_both k i g
-    go (resulted w) f g =
-        subst (λ (j : ℕ). j * 4096 + n ≤ area) (same_result _ i g) (place_inside s w h area n (ready_of s area a h n w o z f) (edited s w h) _ refl refl).1
 
 -- an answer and an area that are told by a delivery are told by any that equals it
 pub by_after : (area b : List ℕ) (x y : After ℕ) → x ≡ y → {r : After (Unit {0})} {z : List ℕ}

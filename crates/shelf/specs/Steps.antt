@@ -1,6 +1,5 @@
 -- SCOPE 3.5 and 5: the five calls as one function, from a shelf with its area and a call to an answer and a shelf with its area.
-use Rattle.std.specs.Prelude.{ℕ, Bool, true, false, not, List, eqb, length}
-use Rattle.std.proofs.Math.Option.{Option}
+use Rattle.std.specs.Prelude.{ℕ, Bool, true, false, not, List, eqb, length, Option}
 use Rattle.part.specs.Parts.{bytes_in}
 use Rattle.part.specs.declared.Part.{Part}
 use Rattle.refusal.specs.Outcomes.{Outcome, refused, resulted}

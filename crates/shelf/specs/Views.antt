@@ -2,8 +2,7 @@
 -- kept of its sections, by number. What a call answers to a key is told here of that view (of an opening, also of the records and places that
 -- are left), and what it does to the view is told of that view, the call and whether it was accepted. How a shelf keeps its views, in watch
 -- records, places and an area, is told at the end.
-use Rattle.std.specs.Prelude.{ℕ, ◌+◌, ◌*◌, Bool, true, false, not, List, leb, eqb}
-use Rattle.std.proofs.Math.Option.{Option, some, none}
+use Rattle.std.specs.Prelude.{ℕ, ◌+◌, ◌*◌, Bool, true, false, not, List, leb, eqb, Option, Some, None}
 use Rattle.logic.specs.Choices.{pick, if_eq}
 use Rattle.logic.specs.Loops.{◌&◌, any, count, first}
 use Rattle.kind.specs.Kinds.{kind_of}
@@ -80,37 +79,37 @@ pub data Call : Type 0 where
 
 -- ---- what a call does to a view
 abbrev pub fresh_view : ℕ → View
-fresh_view q = record { quota = q; edition = no_edition; kept = λ _. none }
+fresh_view q = record { quota = q; edition = no_edition; kept = λ _. None }
 
 -- a section put under its number
 unfoldable pub put : (ℕ → Option Kept) → ℕ → List ℕ → ℕ → Option Kept
-put f n b m = pick (eqb m n) (some (record { bytes = b })) (f m)
+put f n b m = pick (eqb m n) (Some (record { bytes = b })) (f m)
 
 -- another edition drops what was kept; then the section is kept under its number
 unfoldable pub hears : View → Header → List ℕ → View
 hears v h b = record {
   quota = v.quota;
   edition = edition_of h;
-  kept = put (pick (same_edition v.edition h) v.kept (λ _. none)) h.number b;
+  kept = put (pick (same_edition v.edition h) v.kept (λ _. None)) h.number b;
 }
 
 abbrev pub hears_in : Option View → List ℕ → Outcome Header → Option View
-hears_in none b o = none
-hears_in (some v) b (refused k) = some v
-hears_in (some v) b (resulted h) = some (hears v h b)
+hears_in None b o = None
+hears_in (Some v) b (refused k) = Some v
+hears_in (Some v) b (resulted h) = Some (hears v h b)
 
 -- the next view of any key: by its view, the call, and whether the call was accepted
 unfoldable pub next_view : Asked → Call → Bool → Option View → Option View
-next_view k (opens o) y v = pick (y & same_key k o.key) (some (fresh_view o.quota)) v
-next_view k (closes c) y v = pick (y & same_key k c.key) none v
+next_view k (opens o) y v = pick (y & same_key k o.key) (Some (fresh_view o.quota)) v
+next_view k (closes c) y v = pick (y & same_key k c.key) None v
 next_view k (asks q) y v = v
 next_view k (fetches f) y v = v
 next_view k (delivers d) y v = pick (y & same_key k (key_in d.pid d.bytes)) (hears_in v d.bytes (judged d.bytes)) v
 
 -- ---- what a call answers to a key with this view, on a shelf that obeys its rules
 abbrev pub is_some : {A : Type 0} → Option A → Bool
-is_some none = false
-is_some (some x) = true
+is_some None = false
+is_some (Some x) = true
 
 -- an opening also asks the shelf: for a record that is not open, and for places that are not promised
 unfoldable pub opening_says : Shelf → Option View → Opening → Outcome (Unit {0})
@@ -122,8 +121,8 @@ opening_says s v o =
     (resulted tt))))
 
 abbrev pub closing_says : Option View → Outcome (Unit {0})
-closing_says none = refused 17
-closing_says (some v) = resulted tt
+closing_says None = refused 17
+closing_says (Some v) = resulted tt
 
 -- a watch answers: nothing heard, c of n sections, or complete (with n)
 pub data Status : Type 0 where
@@ -144,26 +143,26 @@ abbrev pub held_in : View → ℕ
 held_in v = count (v.edition.last + 1) (λ m. is_some (v.kept m))
 
 abbrev pub status_says : Option View → Outcome Status
-status_says none = refused 17
-status_says (some v) = resulted (status_of v.edition (held_in v))
+status_says None = refused 17
+status_says (Some v) = resulted (status_of v.edition (held_in v))
 
 abbrev pub bytes_or22 : Option Kept → Outcome (List ℕ)
-bytes_or22 none = refused 22
-bytes_or22 (some k) = resulted k.bytes
+bytes_or22 None = refused 22
+bytes_or22 (Some k) = resulted k.bytes
 
 abbrev pub fetching_says : Option View → ℕ → Outcome (List ℕ)
-fetching_says none m = refused 17
-fetching_says (some v) m = bytes_or22 (v.kept m)
+fetching_says None m = refused 17
+fetching_says (Some v) m = bytes_or22 (v.kept m)
 
 unfoldable pub delivery_says : Option View → Outcome Header → Outcome (Unit {0})
 delivery_says v (refused k) = refused k
-delivery_says none (resulted h) = refused 17
-delivery_says (some v) (resulted h) = or_refuse 18 (leb (h.last + 1) v.quota) (resulted tt)
+delivery_says None (resulted h) = refused 17
+delivery_says (Some v) (resulted h) = or_refuse 18 (leb (h.last + 1) v.quota) (resulted tt)
 
 -- ---- how a shelf with its area keeps the view of a key: none where it is not watched
 -- what stands at the first number below n that has f
 unfoldable pub at_first : {A : Type 0} → ℕ → (ℕ → Bool) → (ℕ → A) → Option A
-at_first n f g = pick (any n f) (some (g (first n f))) none
+at_first n f g = pick (any n f) (Some (g (first n f))) None
 
 -- the first n bytes of place i
 abbrev pub bytes_at : List ℕ → ℕ → ℕ → List ℕ

@@ -1,32 +1,37 @@
-// Opening, closing, status and fetching, each with its refusals in the order of SCOPE 6.2.
+// Opening, closing, status and fetching, each with its refusals in the order of SCOPE 6.2. What may be refused is asked of a shelf that is lent and
+// answered as a `Result`; the call puts the shelf beside it.
 ghost use Rattle.std.specs.Prelude.{◌≡◌, true, ◌≤◌, ◌<◌, length};
+ghost use Rattle.refusal.specs.Outcomes.{outcome, outcome_by};
 ghost use Rattle.shelf_state.specs.Records.{blank_watch};
 ghost use Rattle.shelf_state.specs.Searches.{set_watch, dropped};
 ghost use Rattle.shelf_state.specs.Rules.{in_range};
-ghost use Rattle.shelf.specs.Answers.{after_change, after_status, after_fetch};
-ghost use Rattle.shelf.specs.Calls.{made, fresh, opened_in_range, opened, closed, status_after, fetched};
+ghost use Rattle.shelf.specs.Answers.{after, after_by, status_told};
+ghost use Rattle.shelf.specs.Calls.{made, fresh, opened, closed, status_after, fetched};
+ghost use Rattle.shelf.specs.Inner.{opening, known, asking, fetching};
 
-use crate::answers::{AfterChange, AfterFetch, AfterStatus, Change, Fetched, Progress};
+use crate::answers::{After, Progress};
 use crate::inner::{fetch_from, progress_of};
+use part::Part;
 use refusal::Refusal;
 use shelf_state::inner::{
     blank_watch, empty_shelf, find_watch, free_record, key_of, no_edition, renew, room, set_watch,
+    watches_in_use,
 };
 use shelf_state::{Asked, Shelf, Watch, in_range, obeys_rules, sizes_in_range};
 
 // A shelf with nothing on it.
-pub fn empty(places: usize, records: usize) -> AfterChange
-    ensures { after_change result ≡ made places records }
+pub fn empty(places: usize, records: usize) -> After<()>
+    ensures { after result ≡ made places records }
 {
-    if sizes_in_range(places, records) {
-        return AfterChange {
-            answer: Change::Done,
-            shelf: empty_shelf(places, records),
+    if !sizes_in_range(places, records) {
+        return After {
+            answer: Err(Refusal::ShelfBroken),
+            shelf: empty_shelf(0, 0),
         };
     }
-    AfterChange {
-        answer: Change::Refused(Refusal::ShelfBroken),
-        shelf: empty_shelf(0, 0),
+    After {
+        answer: Ok(()),
+        shelf: empty_shelf(places, records),
     }
 }
 
@@ -43,55 +48,57 @@ fn fresh_watch(a: Asked, quota: usize) -> Watch
     }
 }
 
-// 19, 20 and 21, then the watch.
-fn open_in_range(s: Shelf, a: Asked, quota: usize) -> AfterChange
-    requires { (s.records ≤ 16) × (in_range a quota ≡ true) }
-    ensures { after_change result ≡ opened_in_range s a quota }
+// 14, 15, 19, 20 and 21, or the record that is opened.
+fn record_for(s: &Shelf, area: &[u8], a: Asked, quota: usize) -> Result<usize, Refusal>
+    ensures { outcome result ≡ opening s.now (length area.now) a quota }
 {
-    let ws = s.watches;
-    let n = s.records;
-    if find_watch(ws, n, a) < n {
-        return AfterChange {
-            answer: Change::Refused(Refusal::AlreadyWatched),
-            shelf: s,
-        };
+    if !obeys_rules(s, area) {
+        return Err(Refusal::ShelfBroken);
     }
-    let f = free_record(ws, n);
-    if f >= n {
-        return AfterChange {
-            answer: Change::Refused(Refusal::NoRecordLeft),
-            shelf: s,
-        };
+    if !in_range(a, quota) {
+        return Err(Refusal::OutOfRange);
     }
-    if !room(ws, n, s.count, quota) {
-        return AfterChange {
-            answer: Change::Refused(Refusal::NoPlacesLeft),
-            shelf: s,
-        };
+    let ws = watches_in_use(s);
+    if find_watch(ws, a) < s.records {
+        return Err(Refusal::AlreadyWatched);
     }
-    let w = fresh_watch(a, quota);
-    AfterChange {
-        answer: Change::Done,
-        shelf: set_watch(s, f, w),
+    let f = free_record(ws);
+    if f >= s.records {
+        return Err(Refusal::NoRecordLeft);
+    }
+    if !room(ws, s.count, quota) {
+        return Err(Refusal::NoPlacesLeft);
+    }
+    Ok(f)
+}
+
+pub fn open(s: Shelf, area: &[u8], a: Asked, quota: usize) -> After<()>
+    ensures { after result ≡ opened s (length area.now) a quota }
+{
+    match record_for(&s, area, a, quota) {
+        Err(k) => After {
+            answer: Err(k),
+            shelf: s,
+        },
+        Ok(f) => After {
+            answer: Ok(()),
+            shelf: set_watch(s, f, fresh_watch(a, quota)),
+        },
     }
 }
 
-pub fn open(s: Shelf, area: &[u8], a: Asked, quota: usize) -> AfterChange
-    ensures { after_change result ≡ opened s (length area.now) a quota }
+// 14 and 17, or the watch of the key.
+fn watch_of(s: &Shelf, area: &[u8], a: Asked) -> Result<usize, Refusal>
+    ensures { outcome result ≡ known s.now (length area.now) a }
 {
     if !obeys_rules(s, area) {
-        return AfterChange {
-            answer: Change::Refused(Refusal::ShelfBroken),
-            shelf: s,
-        };
+        return Err(Refusal::ShelfBroken);
     }
-    if !in_range(a, quota) {
-        return AfterChange {
-            answer: Change::Refused(Refusal::OutOfRange),
-            shelf: s,
-        };
+    let w = find_watch(watches_in_use(s), a);
+    if w >= s.records {
+        return Err(Refusal::NotWatched);
     }
-    open_in_range(s, a, quota)
+    Ok(w)
 }
 
 // The shelf without the watch and its sections.
@@ -102,71 +109,49 @@ fn without(s: Shelf, w: usize) -> Shelf
     renew(s, w, blank_watch())
 }
 
-pub fn close(s: Shelf, area: &[u8], a: Asked) -> AfterChange
-    ensures { after_change result ≡ closed s (length area.now) a }
+pub fn close(s: Shelf, area: &[u8], a: Asked) -> After<()>
+    ensures { after result ≡ closed s (length area.now) a }
 {
-    if !obeys_rules(s, area) {
-        return AfterChange {
-            answer: Change::Refused(Refusal::ShelfBroken),
+    match watch_of(&s, area, a) {
+        Err(k) => After {
+            answer: Err(k),
             shelf: s,
-        };
-    }
-    let ws = s.watches;
-    let n = s.records;
-    let w = find_watch(ws, n, a);
-    if w >= n {
-        return AfterChange {
-            answer: Change::Refused(Refusal::NotWatched),
-            shelf: s,
-        };
-    }
-    AfterChange {
-        answer: Change::Done,
-        shelf: without(s, w),
+        },
+        Ok(w) => After {
+            answer: Ok(()),
+            shelf: without(s, w),
+        },
     }
 }
 
-pub fn status(s: Shelf, area: &[u8], a: Asked) -> AfterStatus
-    ensures { after_status result ≡ status_after s (length area.now) a }
+fn status_in(s: &Shelf, area: &[u8], a: Asked) -> Result<Progress, Refusal>
+    ensures { outcome_by status_told result ≡ asking s.now (length area.now) a }
 {
-    if !obeys_rules(s, area) {
-        return AfterStatus {
-            answer: Progress::Refused(Refusal::ShelfBroken),
-            shelf: s,
-        };
-    }
-    let ws = s.watches;
-    let n = s.records;
-    let w = find_watch(ws, n, a);
-    if w >= n {
-        return AfterStatus {
-            answer: Progress::Refused(Refusal::NotWatched),
-            shelf: s,
-        };
-    }
-    AfterStatus {
-        answer: progress_of(s, w),
+    let w = watch_of(s, area, a)?;
+    Ok(progress_of(s, w))
+}
+
+pub fn status(s: Shelf, area: &[u8], a: Asked) -> After<Progress>
+    ensures { after_by status_told result ≡ status_after s (length area.now) a }
+{
+    After {
+        answer: status_in(&s, area, a),
         shelf: s,
     }
 }
 
-pub fn fetch(s: Shelf, area: &[u8], a: Asked, number: usize) -> AfterFetch
-    ensures { after_fetch result ≡ fetched s (length area.now) a number }
+fn fetch_in(s: &Shelf, area: &[u8], a: Asked, number: usize) -> Result<Part, Refusal>
+    ensures { outcome result ≡ fetching s.now (length area.now) a number }
 {
-    if !obeys_rules(s, area) {
-        return AfterFetch {
-            answer: Fetched::Refused(Refusal::ShelfBroken),
-            shelf: s,
-        };
-    }
-    let ws = s.watches;
-    let n = s.records;
-    let w = find_watch(ws, n, a);
-    if w >= n {
-        return AfterFetch {
-            answer: Fetched::Refused(Refusal::NotWatched),
-            shelf: s,
-        };
-    }
+    let w = watch_of(s, area, a)?;
     fetch_from(s, w, number)
+}
+
+pub fn fetch(s: Shelf, area: &[u8], a: Asked, number: usize) -> After<Part>
+    ensures { after result ≡ fetched s (length area.now) a number }
+{
+    After {
+        answer: fetch_in(&s, area, a, number),
+        shelf: s,
+    }
 }

@@ -6,6 +6,6 @@ mod calls;
 mod delivery;
 pub mod inner;
 
-pub use answers::{AfterChange, AfterFetch, AfterStatus, Change, Fetched, Progress};
+pub use answers::{After, Progress};
 pub use calls::{close, empty, fetch, open, status};
 pub use delivery::deliver;

@@ -70,22 +70,16 @@ fn place(s: &[u8], at: usize) -> Place
 
 fn with_watches(s: &[u8], given: Shelf) -> Shelf {
     let mut t = given;
-    let mut i = 0;
-    while i < 16 {
-        let w = watch(s, 4 + i * 10);
-        t.watches[i] = w;
-        i += 1;
+    for i in 0..16 {
+        t.watches[i] = watch(s, 4 + i * 10);
     }
     t
 }
 
 fn with_places(s: &[u8], given: Shelf) -> Shelf {
     let mut t = given;
-    let mut i = 0;
-    while i < 64 {
-        let p = place(s, 164 + i * 5);
-        t.places[i] = p;
-        i += 1;
+    for i in 0..64 {
+        t.places[i] = place(s, 164 + i * 5);
     }
     t
 }
@@ -104,12 +98,13 @@ fn put(out: &mut [u8], i: usize, x: u8) {
 fn put_word(out: &mut [u8], at: usize, x: u16)
     requires { at < 1000 }
 {
-    put(out, at, (x / 256) as u8);
-    put(out, at + 1, (x % 256) as u8);
+    let [high, low] = x.to_be_bytes();
+    put(out, at, high);
+    put(out, at + 1, low);
 }
 
 fn put_flag(out: &mut [u8], i: usize, x: bool) {
-    put(out, i, if x { 1 } else { 0 });
+    put(out, i, u8::from(x));
 }
 
 fn put_key(out: &mut [u8], at: usize, k: Key)
@@ -147,20 +142,14 @@ fn put_place(out: &mut [u8], at: usize, p: Place)
 }
 
 fn put_watches(out: &mut [u8], s: Shelf) {
-    let mut i = 0;
-    while i < 16 {
-        let w = s.watches[i];
-        put_watch(out, 4 + i * 10, w);
-        i += 1;
+    for i in 0..16 {
+        put_watch(out, 4 + i * 10, s.watches[i]);
     }
 }
 
 fn put_places(out: &mut [u8], s: Shelf) {
-    let mut i = 0;
-    while i < 64 {
-        let p = s.places[i];
-        put_place(out, 164 + i * 5, p);
-        i += 1;
+    for i in 0..64 {
+        put_place(out, 164 + i * 5, s.places[i]);
     }
 }
 

@@ -1,9 +1,9 @@
 -- What the calls answer on a shelf that obeys its rules, by the key's view; and that one which breaks them is refused by 14.
+use Rattle.std.specs.Prelude.{None, Some}
 use Prim.Native.Nat.{◌*◌, ◌+◌, ℕ}
 use mathlib.Core.Path.{◌∙◌, ◌≡◌, ap, refl, sym}
 use mathlib.Core.Bool.{Bool, false, not, true}
 use mathlib.Core.List.{List}
-use mathlib.Core.Option.{none, some}
 use lib.Dec.{eqb, leb}
 use lib.ListN.{length}
 use Rattle.logic.proofs.LoopLaws.{isnt}
@@ -61,7 +61,7 @@ module _ (s : Shelf) (area : List ℕ) (ok : obeys s (length area) ≡ true) whe
         go : (b c d e : Bool)
             → ◌≡◌ {A = Outcome (Unit {0})}
             (or_refuse_with 15 s b (or_refuse_with 19 s (not c) (or_refuse_with 20 s d (or_refuse_with 21 s e (answered tt (set_watch s (free_record s) (fresh a q))))))).outcome
-            (or_refuse 15 b (or_refuse 19 (not (is_some (pick c (some (view_at s area w)) none))) (or_refuse 20 d (or_refuse 21 e (resulted tt)))))
+            (or_refuse 15 b (or_refuse 19 (not (is_some (pick c (Some (view_at s area w)) None))) (or_refuse 20 d (or_refuse 21 e (resulted tt)))))
         go false c d e = refl
         go true true d e = refl
         go true false false e = refl
@@ -72,7 +72,7 @@ module _ (s : Shelf) (area : List ℕ) (ok : obeys s (length area) ≡ true) whe
     unfolding closed or_refuse_with view at_first
     closing_says_lem = passes (λ r. r.outcome) s (length area) ok _ ∙ go (watched s a)
       where
-        go : (b : Bool) → (or_refuse_with 17 s b (answered tt (set_watch (dropped s w) w blank_watch))).outcome ≡ closing_says (pick b (some (view_at s area w)) none)
+        go : (b : Bool) → (or_refuse_with 17 s b (answered tt (set_watch (dropped s w) w blank_watch))).outcome ≡ closing_says (pick b (Some (view_at s area w)) None)
         go true = refl
         go false = refl
 
@@ -84,7 +84,7 @@ module _ (s : Shelf) (area : List ℕ) (ok : obeys s (length area) ≡ true) whe
     unfolding status_after or_refuse_with view at_first view_at
     status_says_lem = passes (λ r. r.outcome) s (length area) ok _ ∙ go (watched s a)
       where
-        go : (b : Bool) → (or_refuse_with 17 s b (answered (status_of (watch_at s w).edition (held_numbers s w)) s)).outcome ≡ status_says (pick b (some (view_at s area w)) none)
+        go : (b : Bool) → (or_refuse_with 17 s b (answered (status_of (watch_at s w).edition (held_numbers s w)) s)).outcome ≡ status_says (pick b (Some (view_at s area w)) None)
         go true = ap (λ (c : ℕ). resulted (status_of (watch_at s w).edition c)) held_is
         go false = refl
 
@@ -93,7 +93,7 @@ module _ (s : Shelf) (area : List ℕ) (ok : obeys s (length area) ≡ true) whe
     fetched_is m = go (is_held s w m)
       where
         go : (b : Bool) → fetched_bytes area (or_refuse_with 22 s b (answered (record { start = place_of s w m * 4096; length = (place_at s (place_of s w m)).length }) s)).outcome
-            ≡ bytes_or22 (pick b (some (record { bytes = bytes_at area (place_of s w m) (place_at s (place_of s w m)).length })) none)
+            ≡ bytes_or22 (pick b (Some (record { bytes = bytes_at area (place_of s w m) (place_at s (place_of s w m)).length })) None)
         go true = refl
         go false = refl
 
@@ -101,7 +101,7 @@ module _ (s : Shelf) (area : List ℕ) (ok : obeys s (length area) ≡ true) whe
     unfolding fetched or_refuse_with view at_first view_at
     fetching_says_lem m = passes (λ r. fetched_bytes area r.outcome) s (length area) ok _ ∙ go (watched s a)
       where
-        go : (b : Bool) → fetched_bytes area (or_refuse_with 17 s b (fetched_from s w m)).outcome ≡ fetching_says (pick b (some (view_at s area w)) none) m
+        go : (b : Bool) → fetched_bytes area (or_refuse_with 17 s b (fetched_from s w m)).outcome ≡ fetching_says (pick b (Some (view_at s area w)) None) m
         go true = fetched_is m
         go false = refl
 
@@ -119,7 +119,7 @@ module _ (s : Shelf) (area : List ℕ) (ok : obeys s (length area) ≡ true) whe
         room false = refl
 
         go : (b c : Bool) → done (or_refuse 16 (not b) (or_refuse 17 c (or_refuse 18 (leb (h.last + 1) (watch_at s w).quota) (resulted w))))
-            ≡ delivery_says (pick c (some (view_at s area w)) none) (or_refuse 16 (not b) (resulted h))
+            ≡ delivery_says (pick c (Some (view_at s area w)) None) (or_refuse 16 (not b) (resulted h))
         go true c = refl
         go false true = room (leb (h.last + 1) (watch_at s w).quota)
         go false false = refl

@@ -1,10 +1,10 @@
 -- An accepted closing: what it has passed, that the rules are kept, and that the key has no view and no other view or place changes.
+use Rattle.std.specs.Prelude.{None}
 use Prim.Native.Nat.{◌+◌, ◌<◌, ℕ}
 use mathlib.Core.Path.{◌∙◌, ◌≡◌, ap, refl, subst, sym}
 use mathlib.Core.Bool.{false, true}
 use mathlib.Core.List.{List}
 use mathlib.Core.Logic.{⊎_elim}
-use mathlib.Core.Option.{none}
 use native.Mathlib.Omega.{arith}
 use lib.ListN.{length}
 use Rattle.logic.specs.Loops.{◌&◌}
@@ -97,7 +97,7 @@ module _ (s : Shelf) (area : ℕ) (a : Asked) (f : Closes s area a) where
   shut : (k : Asked) → is_of (watch_at t w) k ≡ false
   shut k = ap (λ (y : Watch). is_of y k) same ∙ is_of_shut blank_watch k refl
 
-  closed_own : (b : List ℕ) → view t b a ≡ none
+  closed_own : (b : List ℕ) → view t b a ≡ None
   closed_own b = view_none t b a (λ i m. ⊎_elim
       (λ e. subst (λ (j : ℕ). is_of (watch_at t j) a ≡ false) (sym e) (shut a))
       (λ n. ap (λ (y : Watch). is_of y a) (closed_keeps.others.watches_stay i n) ∙ isnt (is_of (watch_at s i) a) (λ e. n (one_watch s area h a i w m l e own_is)))
@@ -121,6 +121,6 @@ closing_moves x c f =
     record {
       keeps = closed_obeys s n c.key f;
       size = refl;
-      views = by_key (λ _. none) x _ c.key (closed_own s n c.key f x.area) (closed_other s n c.key f x.area);
+      views = by_key (λ _. None) x _ c.key (closed_own s n c.key f x.area) (closed_other s n c.key f x.area);
       promises = omega (arith, closed_promises s n c.key f, closed_quota s n c.key f x.area);
     }

@@ -1,10 +1,10 @@
 -- An accepted delivery: what it has passed, that the rules are kept, that its key's view hears the section and no other view, place or byte
 -- changes.
+use Rattle.std.specs.Prelude.{Option, None, Some}
 use Prim.Native.Nat.{◌*◌, ◌+◌, ◌<◌, ◌≤◌, ℕ}
 use mathlib.Core.Path.{◌∙◌, ◌≡◌, ap, refl, subst, sym}
 use mathlib.Core.Bool.{Bool, false, true}
 use mathlib.Core.List.{List}
-use mathlib.Core.Option.{Option, none, some}
 use mathlib.Core.Logic.{⊎_elim}
 use native.Mathlib.Omega.{arith}
 use lib.Dec.{eqb, leb}
@@ -145,13 +145,13 @@ module _ (s : Shelf) (area b : List ℕ) (a : Asked) (h : Header) (ok : obeys s 
 
   -- what is kept under each number
   abbrev before : ℕ → Option Kept
-  before = pick (same_edition (watch_at s w).edition h) (kept_at s area w) (λ _. none)
+  before = pick (same_edition (watch_at s w).edition h) (kept_at s area w) (λ _. None)
 
   kept_now : (n : ℕ) → kept_at u area' w n ≡ put before h.number b n
   unfolding put
   kept_now n = go (eqb n h.number) refl
     where
-      go : (c : Bool) → eqb n h.number ≡ c → kept_at u area' w n ≡ pick c (some (record { bytes = b })) (before n)
+      go : (c : Bool) → eqb n h.number ≡ c → kept_at u area' w n ≡ pick c (Some (record { bytes = b })) (before n)
       go true q = ap (kept_at u area' w) (eqb-true n h.number q) ∙ put_own t area b e.rules w h.number z.size below
       go false q = put_other t area b e.rules w h.number z.size below w n (λ y. eqb-false n h.number q y.1) ∙ edited_own s (length area) r w h area n
 
@@ -166,7 +166,7 @@ module _ (s : Shelf) (area b : List ℕ) (a : Asked) (h : Header) (ok : obeys s 
   stored_own =
       own_key s u w delivered_keeps.others area' a x.below (same_key_lem a ∙ own_is)
       (λ i m. isnt (is_of (watch_at s i) a) (λ f. absurd (omega (arith, m, one_watch s (length area) r a i w (omega (arith, m, x.below)) x.below f own_is))))
-      ∙ ap some view_now
+      ∙ ap Some view_now
       ∙ sym (ap (λ (v : Option View). hears_in v b (resulted h)) (seen s area a (any_yes (λ i. is_of (watch_at s i) a) s.records refl x.below)))
 
   stored_view : (k : Asked) → same_key k a ≡ false → view u area' k ≡ view s area k

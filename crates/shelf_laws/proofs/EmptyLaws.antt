@@ -1,9 +1,9 @@
 -- An empty shelf is made where its sizes are in range; it obeys the rules, promises nothing, and watches no key.
+use Rattle.std.specs.Prelude.{None}
 use Prim.Native.Nat.{◌*◌, ℕ}
 use mathlib.Core.Path.{◌∙◌, ◌≡◌, ap, refl, subst, sym}
 use mathlib.Core.Bool.{Bool, false, true}
 use mathlib.Core.List.{List}
-use mathlib.Core.Option.{none}
 use native.Mathlib.Omega.{arith}
 use lib.ListN.{length, length-replicate}
 use borrow.Author.Tests.{leb-true}
@@ -49,7 +49,7 @@ module _ (places records : ℕ) where
       sum_cong s.records (λ i. quota_of (watch_at s i)) (λ _. 0) (λ i _. ap quota_of (watch_blank i) ∙ quota_shut blank_watch refl)
       ∙ sum_zero s.records
 
-  none_viewed : (area : List ℕ) (a : Asked) → view s area a ≡ none
+  none_viewed : (area : List ℕ) (a : Asked) → view s area a ≡ None
   none_viewed area a = view_none s area a (λ i _. ap (λ (w : Watch). is_of w a) (watch_blank i) ∙ is_of_shut blank_watch a refl)
 
   module _ (area : ℕ) (e : sizes_in_range places records ≡ true) (f : area ≡ places * 4096) where

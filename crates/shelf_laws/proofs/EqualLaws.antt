@@ -1,9 +1,9 @@
 -- A delivery of equal bytes: the edition is the watch's and the section is kept already, so neither shelf nor area changes.
+use Rattle.std.specs.Prelude.{Some}
 use Prim.Native.Nat.{◌*◌, ◌+◌, ◌<◌, ◌≤◌, ℕ}
 use mathlib.Core.Path.{◌∙◌, ◌≡◌, ap, ap₂, subst, sym}
 use mathlib.Core.Bool.{Bool, false, not, true}
 use mathlib.Core.List.{List}
-use mathlib.Core.Option.{some}
 use native.Mathlib.Omega.{arith}
 use lib.Dec.{eqb, leb}
 use lib.ListN.{drop, length, length-drop, take}
@@ -53,7 +53,7 @@ current_judged pid b h e = range (leb pid 8191) e
     range false f = not_both 15 h f
 
 module _ (s : Shelf) (area b : List ℕ) (r : Rules s (length area)) (w : ℕ) (h : Header)
-    (same : same_edition (watch_at s w).edition h ≡ true) (has : kept_at s area w h.number ≡ some (record { bytes = b })) where
+    (same : same_edition (watch_at s w).edition h ≡ true) (has : kept_at s area w h.number ≡ Some (record { bytes = b })) where
   abbrev j : ℕ
   j = place_of s w h.number
 
@@ -103,7 +103,7 @@ module _ (s : Shelf) (area b : List ℕ) (r : Rules s (length area)) (w : ℕ) (
       (ap (λ (n : ℕ). take n (drop (j * 4096) area)) (sym length_is) ∙ bytes_are)
 
 module _ (x : State) (d : Delivery) (h : Header) (v : View) (ok : Obeys x) (here : current_on d.pid d.bytes ≡ resulted h)
-    (has-view : view_in x (key_in d.pid d.bytes) ≡ some v) (same : same_edition v.edition h ≡ true) where
+    (has-view : view_in x (key_in d.pid d.bytes) ≡ Some v) (same : same_edition v.edition h ≡ true) where
   abbrev s : Shelf
   s = x.shelf
 
@@ -155,10 +155,10 @@ module _ (x : State) (d : Delivery) (h : Header) (v : View) (ok : Obeys x) (here
   head_is : passing.head ≡ h
   head_is = same_result passing.head h (sym passing.judge ∙ current_judged d.pid b h here)
 
-  module _ (has : v.kept h.number ≡ some (record { bytes = b })) where
-    has_there : kept_at s x.area w h.number ≡ some (record { bytes = b })
+  module _ (has : v.kept h.number ≡ Some (record { bytes = b })) where
+    has_there : kept_at s x.area w h.number ≡ Some (record { bytes = b })
     unfolding view_at
-    has_there = subst (λ (y : View). y.kept h.number ≡ some (record { bytes = b })) (sym v_is) has
+    has_there = subst (λ (y : View). y.kept h.number ≡ Some (record { bytes = b })) (sym v_is) has
 
     whole : delivering s (length x.area) d.pid b ≡ answered (place_of s w h.number) s
     whole = passing.is

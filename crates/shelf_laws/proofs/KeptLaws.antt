@@ -1,9 +1,9 @@
 -- What dropped sections, a change of edition and a stored section leave of the places and of what every watch keeps.
+use Rattle.std.specs.Prelude.{None, Some}
 use Prim.Native.Nat.{◌*◌, ◌+◌, ◌<◌, ◌≤◌, ℕ}
 use mathlib.Core.Path.{◌∙◌, ◌≡◌, ap, refl, subst, sym}
 use mathlib.Core.Bool.{Bool, false, true}
 use mathlib.Core.List.{List}
-use mathlib.Core.Option.{none, some}
 use mathlib.Core.Logic.{◌⊎◌, ⊎_elim}
 use native.Mathlib.Omega.{arith}
 use lib.Dec.{ltb}
@@ -58,11 +58,11 @@ module _ (s : Shelf) (n : ℕ) (r : Rules s n) (w : ℕ) where
         go true = refl
         go false = dropped_stays i e
 
-    pub edited_own : (area : List ℕ) (m : ℕ) → kept_at (edited s w h) area w m ≡ (pick (same_edition (watch_at s w).edition h) (kept_at s area w) (λ _. none)) m
+    pub edited_own : (area : List ℕ) (m : ℕ) → kept_at (edited s w h) area w m ≡ (pick (same_edition (watch_at s w).edition h) (kept_at s area w) (λ _. None)) m
     unfolding edited kept_at
     edited_own area m = go (same_edition (watch_at s w).edition h)
       where
-        go : (b : Bool) → kept_at (edited_by b) area w m ≡ (pick b (kept_at s area w) (λ _. none)) m
+        go : (b : Bool) → kept_at (edited_by b) area w m ≡ (pick b (kept_at s area w) (λ _. None)) m
         go true = refl
         go false = kept_none (dropped s w) area w m (drop_nobody s n r w)
 
@@ -94,14 +94,14 @@ module _ (s : Shelf) (area b : List ℕ) (r : Rules s (length area)) (w m : ℕ)
   old : (i : ℕ) → (i ≡ j → ⊥) → place_at u i ≡ place_at s i
   old = stored_other s (length area) r w m (length b) below
 
-  pub put_own : kept_at u area' w m ≡ some (record { bytes = b })
+  pub put_own : kept_at u area' w m ≡ Some (record { bytes = b })
   unfolding kept_at
   put_own =
       at_only s.count (λ i. holds (place_at u i) w m) (λ i. record { bytes = bytes_at area' i (place_at u i).length }) j below
       (ap (λ (p : Place). holds p w m) new ∙ holds_i (keeping w m (length b)) w m refl refl refl)
       (λ k l. ap (λ (p : Place). holds p w m) (old k (λ e. omega (arith, l, e))) ∙ only s (length area) r w m k (omega (arith, l, below)) (λ e. omega (arith, l, e)))
-      ∙ ap (λ (p : Place). some (record { bytes = bytes_at area' j p.length })) new
-      ∙ ap (λ (x : List ℕ). some (record { bytes = x })) (paste_there area (j * 4096) b (fits j (length b) below small))
+      ∙ ap (λ (p : Place). Some (record { bytes = bytes_at area' j p.length })) new
+      ∙ ap (λ (x : List ℕ). Some (record { bytes = x })) (paste_there area (j * 4096) b (fits j (length b) below small))
 
   module _ (x n : ℕ) (ne : (x ≡ w) × (n ≡ m) → ⊥) where
     -- neither the old nor the new record of the place holds another section

@@ -1,9 +1,9 @@
 -- What a call comes to, and a change of one watch: every other key keeps its view, and the places promised move by that watch's quotas.
+use Rattle.std.specs.Prelude.{Option, Some}
 use Prim.Native.Nat.{◌+◌, ◌<◌, ℕ}
 use mathlib.Core.Path.{◌∙◌, ◌≡◌, ap, refl, subst, sym}
 use mathlib.Core.Bool.{Bool, false, true}
 use mathlib.Core.List.{List}
-use mathlib.Core.Option.{Option, some}
 use mathlib.Core.Logic.{⊎_elim}
 use native.Mathlib.Omega.{arith}
 use lib.ListN.{length}
@@ -83,6 +83,6 @@ module _ (s t : Shelf) (w : ℕ) (o : Others s t w) where
 
   -- the watch's key afterwards
   pub own_key : (b : List ℕ) (k : Asked) → w < s.records → is_of (watch_at t w) k ≡ true → ((i : ℕ) → i < w → is_of (watch_at s i) k ≡ false)
-      → view t b k ≡ some (view_at t b w)
+      → view t b k ≡ Some (view_at t b w)
   own_key b k l e n = view_at_lem t b k w (omega (arith, l, o.records_same)) e
       (λ i m. ap (λ (y : Watch). is_of y k) (o.watches_stay i (λ q. omega (arith, q, m))) ∙ n i m)

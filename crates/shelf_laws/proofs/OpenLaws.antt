@@ -1,9 +1,9 @@
 -- An accepted opening: what it has passed, that the rules are kept, and that the key's view is a fresh one and nothing else changes.
+use Rattle.std.specs.Prelude.{Some}
 use Prim.Native.Nat.{◌+◌, ◌<◌, ◌≤◌, ℕ}
 use mathlib.Core.Path.{◌∙◌, ◌≡◌, ap, refl, sym}
 use mathlib.Core.Bool.{false, not, true}
 use mathlib.Core.List.{List}
-use mathlib.Core.Option.{some}
 use native.Mathlib.Omega.{arith}
 use lib.ListN.{length}
 use borrow.Author.Tests.{leb-true, ltb-true}
@@ -113,10 +113,10 @@ module _ (s : Shelf) (area : ℕ) (a : Asked) (q : ℕ) (f : Opens s area a q) w
     unfolding view_at kept_at
     fresh_is = λ i. record { quota = (same i).quota; edition = (same i).edition; kept = λ m. kept_none s b w m fits.nobody i }
 
-    opened_own : view t b a ≡ some (fresh_view q)
+    opened_own : view t b a ≡ Some (fresh_view q)
     opened_own =
         own_key s t w opened_keeps.others b a f.free (ap (λ (y : Watch). is_of y a) same ∙ own_is) (λ i m. unwatched i (omega (arith, m, f.free)))
-        ∙ ap some fresh_is
+        ∙ ap Some fresh_is
 
     -- neither the free record nor the new one has another key
     opened_other : (k : Asked) → same_key k a ≡ false → view t b k ≡ view s b k
@@ -134,6 +134,6 @@ opening_moves x o f =
     record {
       keeps = opened_obeys s n o.key o.quota f;
       size = refl;
-      views = by_key (λ _. some (fresh_view o.quota)) x _ o.key (opened_own s n o.key o.quota f x.area) (opened_other s n o.key o.quota f x.area);
+      views = by_key (λ _. Some (fresh_view o.quota)) x _ o.key (opened_own s n o.key o.quota f x.area) (opened_other s n o.key o.quota f x.area);
       promises = omega (arith, opened_promises s n o.key o.quota f);
     }

@@ -1,9 +1,9 @@
 -- The quota of a key: the next one is told by the one before, and it stands in the records, so that the area does not count.
+use Rattle.std.specs.Prelude.{Option, None, Some}
 use Prim.Native.Nat.{ℕ}
 use mathlib.Core.Path.{◌∙◌, ◌≡◌, refl}
 use mathlib.Core.Bool.{Bool, false, true}
 use mathlib.Core.List.{List}
-use mathlib.Core.Option.{Option, none, some}
 use Rattle.logic.specs.Choices.{pick}
 use Rattle.logic.specs.Loops.{◌&◌}
 use Rattle.refusal.specs.Outcomes.{Outcome, refused, resulted}
@@ -17,9 +17,9 @@ use Rattle.shelf_laws.proofs.ViewLaws.{view_elsewhere}
 
 quota_hears : (v : Option View) (b : List ℕ) (o : Outcome Header) → quota_in (hears_in v b o) ≡ quota_in v
 unfolding hears
-quota_hears none b o = refl
-quota_hears (some v) b (refused n) = refl
-quota_hears (some v) b (resulted h) = refl
+quota_hears None b o = refl
+quota_hears (Some v) b (refused n) = refl
+quota_hears (Some v) b (resulted h) = refl
 
 quota_choice : (c : Bool) (v w : Option View) (n : ℕ) → quota_in v ≡ n → quota_in (pick c v w) ≡ pick c n (quota_in w)
 quota_choice true v w n e = e
@@ -31,8 +31,8 @@ same_both false n = refl
 
 pub quota_next_lem : (k : Asked) (c : Call) (y : Bool) (v : Option View) → quota_in (next_view k c y v) ≡ quota_next k c y (quota_in v)
 unfolding next_view quota_next
-quota_next_lem k (opens o) y v = quota_choice (y & same_key k o.key) (some (fresh_view o.quota)) v o.quota refl
-quota_next_lem k (closes c) y v = quota_choice (y & same_key k c.key) none v 0 refl
+quota_next_lem k (opens o) y v = quota_choice (y & same_key k o.key) (Some (fresh_view o.quota)) v o.quota refl
+quota_next_lem k (closes c) y v = quota_choice (y & same_key k c.key) None v 0 refl
 quota_next_lem k (asks q) y v = refl
 quota_next_lem k (fetches f) y v = refl
 quota_next_lem k (delivers d) y v =

@@ -1,7 +1,6 @@
 -- SCOPE 5 and 12.3: the laws of the shelf's calls, as statements. What a call does to the view of a key and what it answers is told by
 -- Views.antt of `shelf`; these say that it is so, and what else stays.
-use Rattle.std.specs.Prelude.{ℕ, ◌*◌, ◌≡◌, Bool, true, false, List, length}
-use Rattle.std.proofs.Math.Option.{some, none}
+use Rattle.std.specs.Prelude.{ℕ, ◌*◌, ◌≡◌, Bool, true, false, List, length, Some, None}
 use Rattle.refusal.specs.Outcomes.{refused, resulted, or_refuse}
 use Rattle.shelf_state.specs.Rules.{obeys, promised, sizes_in_range}
 use Rattle.shelf_state.specs.declared.records.Asked.{Asked}
@@ -75,7 +74,7 @@ LentStays = (s : Shelf) (l : List ℕ) (pid : ℕ) (b : List ℕ) (n : ℕ) → 
 -- ---- a delivery of equal bytes changes nothing
 abbrev pub EqualBytesStay : Type 0
 EqualBytesStay = (x : State) (d : Delivery) (h : Header) (v : View) → Obeys x → current_on d.pid d.bytes ≡ resulted h
-    → view_in x (key_in d.pid d.bytes) ≡ some v → same_edition v.edition h ≡ true → v.kept h.number ≡ some (record { bytes = d.bytes })
+    → view_in x (key_in d.pid d.bytes) ≡ Some v → same_edition v.edition h ≡ true → v.kept h.number ≡ Some (record { bytes = d.bytes })
     → step x (record { call = delivers d; lent = own }) ≡ record { answer = did (resulted tt); next = x }
 
 -- ---- an empty shelf is made where its sizes are in range; it has them, obeys its rules, promises nothing and watches no key
@@ -87,7 +86,7 @@ pub record Empty (places records : ℕ) (x : State) : Type 0 where
   pub records_are : x.shelf.records ≡ records
   pub rules : Obeys x
   pub nothing_promised : promised x.shelf ≡ 0
-  pub no_view : (k : Asked) → view_in x k ≡ none
+  pub no_view : (k : Asked) → view_in x k ≡ None
 
 abbrev pub EmptyLaw : Type 0
 EmptyLaw = (places records : ℕ) (area : List ℕ) → (made places records).outcome ≡ resulted tt → length area ≡ places * 4096

@@ -1,7 +1,6 @@
 -- SCOPE 5.9, of one call: the places promised move by the quota that it opens or closes. This holds of every call on a shelf that obeys its
 -- rules, whatever memory it is lent, since quotas stand in the records and not in the area.
-use Rattle.std.specs.Prelude.{ℕ, ◌+◌, ◌≡◌, Bool}
-use Rattle.std.proofs.Math.Option.{Option, some, none}
+use Rattle.std.specs.Prelude.{ℕ, ◌+◌, ◌≡◌, Bool, Option, Some, None}
 use Rattle.logic.specs.Choices.{pick}
 use Rattle.logic.specs.Loops.{◌&◌}
 use Rattle.shelf_state.specs.Records.{same_key}
@@ -13,8 +12,8 @@ use Rattle.shelf_laws.specs.Laws.{Obeys}
 
 -- ---- the quota of a key, 0 where it is not watched; and its next one, by the call and whether it was accepted
 abbrev pub quota_in : Option View → ℕ
-quota_in none = 0
-quota_in (some v) = v.quota
+quota_in None = 0
+quota_in (Some v) = v.quota
 
 unfoldable pub quota_next : Asked → Call → Bool → ℕ → ℕ
 quota_next k (opens o) y n = pick (y & same_key k o.key) o.quota n

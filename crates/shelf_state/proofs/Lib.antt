@@ -1,3 +1,4 @@
+pub mod SearchLaws
 pub mod RecordLaws
 pub mod RuleLaws
 pub mod FlagLaws

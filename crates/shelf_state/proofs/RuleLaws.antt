@@ -1,4 +1,5 @@
 -- The rules as facts that a proof uses by name; the rules' value and the tests' value both say these facts, so they are one.
+use Rattle.std.specs.Prelude.{Option, Some}
 use Prim.Native.Nat.{◌*◌, ◌+◌, ◌<◌, ◌≤◌, ℕ}
 use mathlib.Core.Path.{◌∙◌, ◌≡◌, ap, ap₂, refl, subst, sym}
 use mathlib.Core.Bool.{Bool, false, not, true}
@@ -9,7 +10,6 @@ use lib.ListN.{length}
 use borrow.Author.Tests.{eq-eqb, eqb-true, le-leb, leb-true, lt-ltb, ltb-true, not-false}
 use Rattle.logic.specs.Choices.{if_eq, pick}
 use Rattle.kind.specs.Kinds.{kind_of}
-use Rattle.kind.specs.declared.Found.{Found}
 use Rattle.kind.specs.declared.Kind.{Kind}
 use Rattle.logic.proofs.CountLaws.{Sorted, count_by, count_gap, count_none, count_some, numbers, pigeon, pigeon_gap, sum_lt}
 use Rattle.logic.proofs.LoopLaws.{all_at, all_i, and_i, and_left, and_right, any_none, both, first_has, if_i, if_then, isnt, neither_below, none_at, not_e, not_i, same_truth, true_false}
@@ -24,7 +24,6 @@ use Rattle.shelf_state.specs.declared.records.Place.{Place}
 use Rattle.shelf_state.specs.declared.records.Shelf.{Shelf}
 use Rattle.shelf_state.specs.declared.records.Watch.{Watch}
 use Rattle.kind.specs.declared.Kind.TheVariants.{Mgt, Tvct, Rrt, Eit, Ett}
-use Rattle.kind.specs.declared.Found.TheVariants.{Is}
 
 -- ---- the facts
 pub record Sizes (s : Shelf) (area : ℕ) : Type 0 where
@@ -84,11 +83,11 @@ unfolding sizes_in_range
 in_sizes places records e = leb-true _ _ (and_left _ _ (and_right _ _ e))
 
 -- ---- ranges
-id_small : (x c : ℕ) (k : Kind) (rest : Found) → c < 256 → (watchable rest ≡ true → x < 256) → watchable (if_eq x c (Is k) rest) ≡ true → x < 256
+id_small : (x c : ℕ) (k : Kind) (rest : Option Kind) → c < 256 → (watchable rest ≡ true → x < 256) → watchable (if_eq x c (Some k) rest) ≡ true → x < 256
 unfolding if_eq
 id_small x c k rest l h e = go (eqb x c) refl e
   where
-    go : (b : Bool) → eqb x c ≡ b → watchable (pick b (Is k) rest) ≡ true → x < 256
+    go : (b : Bool) → eqb x c ≡ b → watchable (pick b (Some k) rest) ≡ true → x < 256
     go true q f = omega (arith, eqb-true x c q, l)
     go false q f = h f
 

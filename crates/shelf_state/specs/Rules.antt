@@ -1,9 +1,8 @@
 -- SCOPE 5.3: a definition a rule, under the rule's letter, and the sizes of SCOPE 5.1. Only open records and taken places, within the
 -- sizes in use, are judged. Of a shelf, `records` is how many watches are in use, and `count` how many places.
-use Rattle.std.specs.Prelude.{ℕ, ◌*◌, Bool, false, not, length, ltb, leb, eqb}
+use Rattle.std.specs.Prelude.{ℕ, ◌*◌, Bool, false, not, length, ltb, leb, eqb, Option, Some, None}
 use Rattle.logic.specs.Choices.{pick}
-use Rattle.kind.specs.declared.Found.{Found}
-use Rattle.kind.specs.declared.Found.TheVariants.{Is, Nothing}
+use Rattle.kind.specs.declared.Kind.{Kind}
 use Rattle.kind.specs.Kinds.{kind_of, limits_of}
 use Rattle.logic.specs.Loops.{◌&◌, ◌⇒◌, all, any, sum, count}
 use Rattle.shelf_state.specs.Records.{asked, watch_at, place_at, is_of, holds_for, holds}
@@ -25,9 +24,9 @@ abbrev pub held_by : Shelf → ℕ → ℕ
 held_by s w = count s.count (λ i. holds_for (place_at s i) w)
 
 -- a kind that may be watched
-unfoldable pub watchable : Found → Bool
-watchable Nothing = false
-watchable (Is k) = (limits_of k).watched
+unfoldable pub watchable : Option Kind → Bool
+watchable None = false
+watchable (Some k) = (limits_of k).watched
 
 -- refusal 15 is given where this fails: the PID, the table_id, the quota
 unfoldable pub in_range : Asked → ℕ → Bool

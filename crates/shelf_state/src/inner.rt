@@ -1,120 +1,92 @@
 // Under the rules' test: searches in a shelf and changes of one, for the calls.
-ghost use Rattle.std.specs.Prelude.{◌≡◌, ◌≤◌, ◌<◌};
+ghost use Rattle.std.specs.Prelude.{◌≡◌, ◌≤◌, ◌<◌, length, take};
 ghost use Rattle.shelf_state.specs.Records.{no_edition, blank_watch, blank_place};
 ghost use Rattle.shelf_state.specs.Searches.{empty_shelf, find_watch, first_closed, find_place, first_free, set_watch, release, dropped, held_among};
 ghost use Rattle.shelf_state.specs.Rules.{quota_of};
 ghost use Rattle.shelf_state.specs.Tests.{room_in};
 
 use crate::records::{Asked, Edition, Key, Place, Shelf, Watch, holds_for, holds_section, is_of};
-pub use crate::records::{asked_of, key_of, same_key, wide, wide_word};
+pub use crate::records::{key_of, wide};
 
-// The first open watch below n with the key, or n.
-pub fn find_watch(ws: [Watch; 16], n: usize, a: Asked) -> usize
-    requires { n ≤ 16 }
-    ensures { result ≡ find_watch ws n a }
+// Of a shelf's arrays, what is in use.
+pub fn watches_in_use(s: &Shelf) -> &[Watch]
+    requires { s.now.records ≤ 16 }
+    ensures { (result.now ≡ take s.now.records s.now.watches) × (length result.now ≡ s.now.records) }
 {
-    let mut i = 0;
-    while i < n {
-        let w = ws[i];
-        if is_of(w, a) {
-            return i;
-        }
-        i += 1;
-    }
-    n
+    &s.watches[..s.records]
 }
 
-// The lowest record that is not open, or n.
-pub fn free_record(ws: [Watch; 16], n: usize) -> usize
-    requires { n ≤ 16 }
-    ensures { result ≡ first_closed ws n }
+pub fn places_in_use(s: &Shelf) -> &[Place]
+    requires { s.now.count ≤ 64 }
+    ensures { (result.now ≡ take s.now.count s.now.places) × (length result.now ≡ s.now.count) }
 {
-    let mut i = 0;
-    while i < n {
-        let w = ws[i];
-        if w.live {
-            i += 1;
-        } else {
-            return i;
-        }
-    }
-    n
+    &s.places[..s.count]
 }
 
-// The first place below n with the watch's section of that number, or n.
-pub fn find_place(ps: [Place; 64], n: usize, w: usize, number: usize) -> usize
-    requires { n ≤ 64 }
-    ensures { result ≡ find_place ps n w number }
+// The first open watch with the key, or the number of all.
+pub fn find_watch(ws: &[Watch], a: Asked) -> usize
+    ensures { result ≡ find_watch ws.now (length ws.now) a }
 {
-    let mut i = 0;
-    while i < n {
-        let p = ps[i];
-        if holds_section(p, w, number) {
-            return i;
-        }
-        i += 1;
-    }
-    n
+    ws.iter().position(|w| is_of(*w, a)).unwrap_or(ws.len())
 }
 
-// The lowest free place below n, or n.
-pub fn free_place(ps: [Place; 64], n: usize) -> usize
-    requires { n ≤ 64 }
-    ensures { result ≡ first_free ps n }
+// The lowest record that is not open, or the number of all.
+pub fn free_record(ws: &[Watch]) -> usize
+    ensures { result ≡ first_closed ws.now (length ws.now) }
 {
-    let mut i = 0;
-    while i < n {
-        let p = ps[i];
-        if p.used {
-            i += 1;
-        } else {
-            return i;
-        }
-    }
-    n
+    ws.iter().position(|w| !w.live).unwrap_or(ws.len())
 }
 
-// How many sections the watch holds in the first n places.
-pub fn held_in(ps: [Place; 64], n: usize, w: usize) -> usize
-    requires { n ≤ 64 }
-    ensures { result ≡ held_among ps n w }
+// The first place with the watch's section of that number, or the number of all.
+pub fn find_place(ps: &[Place], w: usize, number: usize) -> usize
+    ensures { result ≡ find_place ps.now (length ps.now) w number }
+{
+    ps.iter()
+        .position(|p| holds_section(*p, w, number))
+        .unwrap_or(ps.len())
+}
+
+// The lowest free place, or the number of all.
+pub fn free_place(ps: &[Place]) -> usize
+    ensures { result ≡ first_free ps.now (length ps.now) }
+{
+    ps.iter().position(|p| !p.used).unwrap_or(ps.len())
+}
+
+// How many sections the watch holds in the places.
+pub fn held_in(ps: &[Place], w: usize) -> usize
+    ensures { result ≡ held_among ps.now (length ps.now) w }
 {
     let mut held = 0;
-    let mut i = 0;
-    while i < n {
-        let p = ps[i];
-        if holds_for(p, w) {
+    for p in ps {
+        if holds_for(*p, w) {
             held += 1;
         }
-        i += 1;
     }
     held
 }
 
+#[tactic(auto, using(logic::proofs::TestLaws::joined), unfolding(crate::specs::Rules::quota_of))]
 pub fn quota_of(w: Watch) -> usize
     ensures { result ≡ quota_of w }
 {
-    if w.live { wide(w.quota) } else { 0 }
+    if w.live { usize::from(w.quota) } else { 0 }
 }
 
-// Whether the quotas of the first n watches and `extra` more fit so many places.
-pub fn room(ws: [Watch; 16], n: usize, places: usize, extra: usize) -> bool
-    requires { n ≤ 16 }
-    ensures { result ≡ room_in ws n places extra }
+// Whether the quotas of the watches and `extra` more fit so many places.
+pub fn room(ws: &[Watch], places: usize, extra: usize) -> bool
+    ensures { result ≡ room_in ws.now (length ws.now) places extra }
 {
     if extra > places {
         return false;
     }
     let mut left = places - extra;
-    let mut i = 0;
-    while i < n {
-        let w = ws[i];
-        let q = quota_of(w);
+    for w in ws {
+        let q = quota_of(*w);
         if q > left {
             return false;
         }
         left -= q;
-        i += 1;
     }
     true
 }
@@ -181,6 +153,7 @@ pub fn empty_shelf(count: usize, records: usize) -> Shelf
 }
 
 // The place, free if it was the watch's.
+#[tactic(auto, using(logic::proofs::TestLaws::joined), unfolding(crate::specs::Searches::release))]
 pub fn released(p: Place, w: usize) -> Place
     ensures { result ≡ release w p }
 {
@@ -192,14 +165,10 @@ pub fn renew(s: Shelf, w: usize, x: Watch) -> Shelf
     requires { (w < 16) × (s.count ≤ 64) }
     ensures { result ≡ set_watch (dropped s w) w x }
 {
-    let n = s.count;
     let mut t = s;
     t.watches[w] = x;
-    let mut i = 0;
-    while i < n {
-        let p = released(t.places[i], w);
-        t.places[i] = p;
-        i += 1;
+    for i in 0..s.count {
+        t.places[i] = released(t.places[i], w);
     }
     t
 }

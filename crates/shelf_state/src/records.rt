@@ -1,19 +1,22 @@
 // The records, narrow, and keys: how they are kept, made and compared.
+//
+// `live`, `heard` and `used` stand beside what they speak of, and not around it as an `Option`: a shelf is what every call takes, and one whose closed
+// records and free places still hold numbers may be given. In lent memory the numbers lie so too.
 ghost use Rattle.std.specs.Prelude.{◌≡◌, ◌<◌};
 ghost use Rattle.shelf_state.specs.Records.{asked, same_key, is_of, holds_for, holds};
 ghost use Rattle.shelf_state.specs.Searches.{key_of};
 
 // A watch's key as its record keeps it.
 #[repr(C)]
-#[derive(Clone, Copy)]
+#[derive(Clone, Copy, PartialEq)]
 pub struct Key {
     pub pid: u16,
     pub table_id: u8,
     pub extension: u16,
 }
 
-// A key as a call names it: wide, so that numbers out of range can be named.
-#[derive(Clone, Copy)]
+// A key as a call names it: a type of its own, and wide, so that numbers out of range can be named.
+#[derive(Clone, Copy, PartialEq)]
 pub struct Asked {
     pub pid: usize,
     pub table_id: usize,
@@ -21,14 +24,14 @@ pub struct Asked {
 }
 
 // The edition that a watch collects: none where nothing has been heard.
-#[derive(Clone, Copy)]
+#[derive(Clone, Copy, PartialEq)]
 pub struct Edition {
     pub heard: bool,
     pub version: u8,
     pub last: u8,
 }
 
-#[derive(Clone, Copy)]
+#[derive(Clone, Copy, PartialEq)]
 pub struct Watch {
     pub live: bool,
     pub key: Key,
@@ -37,7 +40,7 @@ pub struct Watch {
 }
 
 // A place, free or with a section of a watch.
-#[derive(Clone, Copy)]
+#[derive(Clone, Copy, PartialEq)]
 pub struct Place {
     pub used: bool,
     pub watch: u8,
@@ -46,7 +49,7 @@ pub struct Place {
 }
 
 // Of the arrays, the first `records` watches and the first `count` places are in use.
-#[derive(Clone, Copy)]
+#[derive(Clone, Copy, PartialEq)]
 pub struct Shelf {
     pub watches: [Watch; 16],
     pub records: usize,
@@ -54,14 +57,9 @@ pub struct Shelf {
     pub count: usize,
 }
 
+// A byte as a number, and that it is a byte's: of a field in an array's element nothing else says so.
 pub fn wide(x: u8) -> usize
     ensures { (result ≡ x) × (result < 256) }
-{
-    x as usize
-}
-
-pub fn wide_word(x: u16) -> usize
-    ensures { (result ≡ x) × (result < 65536) }
 {
     x as usize
 }
@@ -70,8 +68,8 @@ pub fn asked_of(k: Key) -> Asked
     ensures { result ≡ asked k }
 {
     Asked {
-        pid: wide_word(k.pid),
-        table_id: wide(k.table_id),
+        pid: usize::from(k.pid),
+        table_id: usize::from(k.table_id),
         extension: k.extension,
     }
 }
@@ -89,37 +87,31 @@ pub fn key_of(a: Asked) -> Key
 }
 
 // The one place where keys are compared.
+#[tactic(auto, using(logic::proofs::TestLaws::joined), unfolding(crate::specs::Records::same_key))]
 pub fn same_key(k: Key, a: Asked) -> bool
     ensures { result ≡ same_key (asked k) a }
 {
-    if wide_word(k.pid) != a.pid {
-        return false;
-    }
-    if wide(k.table_id) != a.table_id {
-        return false;
-    }
-    k.extension == a.extension
+    asked_of(k) == a
 }
 
 // Whether this is an open watch with the key.
+#[tactic(auto, using(logic::proofs::TestLaws::joined), unfolding(crate::specs::Records::is_of))]
 pub fn is_of(w: Watch, a: Asked) -> bool
     ensures { result ≡ is_of w a }
 {
-    if w.live { same_key(w.key, a) } else { false }
+    w.live && same_key(w.key, a)
 }
 
+#[tactic(auto, using(logic::proofs::TestLaws::joined), unfolding(crate::specs::Records::holds_for))]
 pub fn holds_for(p: Place, w: usize) -> bool
     ensures { result ≡ holds_for p w }
 {
-    if p.used { wide(p.watch) == w } else { false }
+    p.used && usize::from(p.watch) == w
 }
 
+#[tactic(auto, using(logic::proofs::TestLaws::joined), unfolding(crate::specs::Records::holds))]
 pub fn holds_section(p: Place, w: usize, number: usize) -> bool
     ensures { result ≡ holds p w number }
 {
-    if holds_for(p, w) {
-        wide(p.number) == number
-    } else {
-        false
-    }
+    holds_for(p, w) && usize::from(p.number) == number
 }

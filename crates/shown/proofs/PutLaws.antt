@@ -7,7 +7,7 @@ use native.Mathlib.Omega.{arith}
 use lib.Dec.{leb}
 use borrow.Author.Tests.{leb-true, leb-false}
 use lib.ListN.{length, get_or, take, length-append}
-use lib.Seq.{sets, set_out, length-sets, take-suc, take_all}
+use lib.Seq.{sets, set_out, length-sets, take-suc}
 use Rattle.row.proofs.RowLaws.{sets_append}
 use Rattle.logic.proofs.ChoiceLaws.{lt_yes, lt_no}
 use Rattle.shown.specs.Ascii.{digit, decimal_by}
@@ -40,16 +40,13 @@ put_then {a} {b} {l} {k} {e} {n} {m} {r} p q = record {
 pub put_size : {bs l e : List ℕ} {n r : ℕ} → Put bs l n r e → length e ≡ length l
 put_size {bs} {l} {e} {n} {r} p = ap length p.puts ∙ length-sets l n bs
 
--- one byte more, and the last of them
+-- one byte more
 pub put_more : {l k e : List ℕ} {n m r : ℕ} (bs : List ℕ) (i : ℕ) → i < length bs → Put (take i bs) l n m k → Put (get_or bs i 0 ∷ []) k m r e
     → Put (take (i + 1) bs) l n r e
 put_more {l} {k} {e} {n} {m} {r} bs i h p q =
     let s : suc i ≡ i + 1 = omega arith in
     let t : take i bs ++ (get_or bs i 0 ∷ []) ≡ take (i + 1) bs = sym (take-suc bs i 0 h) ∙ ap (λ (j : ℕ). take j bs) s in
     subst (λ (x : List ℕ). Put x l n r e) t (put_then p q)
-
-pub put_end : {l e : List ℕ} {n r : ℕ} (bs : List ℕ) (i : ℕ) → length bs ≤ i → Put (take i bs) l n r e → Put bs l n r e
-put_end {l} {e} {n} {r} bs i h p = subst (λ (x : List ℕ). Put x l n r e) (take_all i bs h) p
 
 -- a number of one digit, of two, and of more
 module _ (x most : ℕ) where

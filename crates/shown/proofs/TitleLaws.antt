@@ -1,12 +1,12 @@
 -- How units are shown, one after the other.
 use Prim.Native.Nat.{ℕ, suc, ◌+◌, ◌/◌, ◌%◌, ◌≤◌, ◌<◌}
 use mathlib.Core.Path.{◌≡◌, refl, sym, ap, ◌∙◌, subst}
-use mathlib.Core.Bool.{Bool, true, false}
+use mathlib.Core.Bool.{Bool, true, false, not}
 use mathlib.Core.List.{List, [], ◌∷◌, ◌++◌, append-nil, append_assoc}
 use native.Mathlib.Omega.{arith}
-use lib.Dec.{T, ltb}
+use lib.Dec.{T, eqb, ltb}
 use lib.ListN.{length, get_or, take}
-use lib.Seq.{take-suc, take_all}
+use lib.Seq.{take-suc}
 use borrow.Author.Tests.{ltb-false}
 use Rattle.logic.specs.Choices.{pick, if_lt, if_eq}
 use Rattle.logic.proofs.ChoiceLaws.{lt_yes, lt_no, eq_no}
@@ -28,17 +28,17 @@ module _ (u : ℕ) where
   pub plain_mark : (m : ℕ) → false ≡ plain m → u ≡ m → false ≡ plain u
   plain_mark m h e = h ∙ ap plain (sym e)
 
-  pub plain_other : 32 ≤ u → u ≤ 126 → (u ≡ 34 → ⊥) → (u ≡ 92 → ⊥) → true ≡ plain u
-  unfolding plain
-  plain_other h g i j = lt_no u 32 false _ h (lt_no 126 u false _ g (eq_no u 34 false _ i (eq_no u 92 false true j refl)))
+  pub plain_other : 32 ≤ u → u ≤ 126 → (u ≡ 34 → ⊥) → not (eqb u 92) ≡ plain u
+  unfolding plain if_eq
+  plain_other h g i = lt_no u 32 false _ h (lt_no 126 u false _ g (eq_no u 34 false _ i (by (eqb u 92))))
+    where
+      by : (t : Bool) → not t ≡ pick t false true
+      by true = refl
+      by false = refl
 
 pub quote_not : false ≡ plain 34
 unfolding plain if_lt if_eq
 quote_not = refl
-
-pub backslash_not : false ≡ plain 92
-unfolding plain if_lt if_eq
-backslash_not = refl
 
 not_first : (t b : Bool) → pick t false b ≡ true → (t ≡ false) × (b ≡ true)
 not_first true b e = absurd (subst T (sym e) tt)
@@ -78,7 +78,7 @@ one_shown : (u : ℕ) → all_shown (u ∷ []) ≡ shown u
 unfolding all_shown
 one_shown u = append-nil (shown u)
 
--- one unit more, and the last of them
+-- one unit more
 pub units_more : {l k e : List ℕ} {n m r : ℕ} (us : List ℕ) (i : ℕ) → i < length us → Put (all_shown (take i us)) l n m k
     → Put (shown (get_or us i 0)) k m r e → Put (all_shown (take (i + 1) us)) l n r e
 units_more {l} {k} {e} {n} {m} {r} us i h p q =
@@ -88,6 +88,3 @@ units_more {l} {k} {e} {n} {m} {r} us i h p q =
     ap (λ (x : List ℕ). all_shown (take i us) ++ x) (sym (one_shown (get_or us i 0))) ∙ sym (shown_append (take i us) u)
     ∙ ap all_shown (sym (take-suc us i 0 h) ∙ ap (λ (j : ℕ). take j us) s) in
     subst (λ (x : List ℕ). Put x l n r e) t (put_then p q)
-
-pub units_end : {l e : List ℕ} {n r : ℕ} (us : List ℕ) (i : ℕ) → length us ≤ i → Put (all_shown (take i us)) l n r e → Put (all_shown us) l n r e
-units_end {l} {e} {n} {r} us i h p = subst (λ (x : List ℕ). Put (all_shown x) l n r e) (take_all i us h) p

@@ -5,5 +5,5 @@
 mod put;
 mod title;
 
-pub use put::{least, number_of, put_all, put_field, put_number};
+pub use put::{number_of, put_all, put_field, put_number};
 pub use title::put_title;

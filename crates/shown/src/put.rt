@@ -7,12 +7,6 @@ ghost use Rattle.shown.specs.Output.{Put};
 
 use refusal::Refusal;
 
-pub fn least(a: usize, b: usize) -> usize
-    ensures { result ≡ min a b }
-{
-    if a < b { a } else { b }
-}
-
 pub fn put(out: &mut [u8], n: usize, b: u8) -> usize
     ensures { Put (b ∷ []) out.old n result out.new }
 {
@@ -26,11 +20,9 @@ pub fn put(out: &mut [u8], n: usize, b: u8) -> usize
 pub fn put_all(out: &mut [u8], n: usize, bytes: &[u8]) -> usize
     ensures { Put bytes.now out.old n result out.new }
 {
-    let mut m = least(out.len(), n);
-    let mut i = 0;
-    while i < bytes.len() {
-        m = put(out, m, bytes[i]);
-        i += 1;
+    let mut m = out.len().min(n);
+    for b in bytes {
+        m = put(out, m, *b);
     }
     m
 }
@@ -39,7 +31,7 @@ fn digit_of(x: usize) -> u8
     requires { x < 10 }
     ensures { result ≡ digit x }
 {
-    48 + x as u8
+    b'0' + x as u8
 }
 
 // Two digits, of which the first may be 0.

@@ -4,7 +4,7 @@ use mathlib.Core.Path.{◌≡◌, refl, ap, subst}
 use mathlib.Core.List.{List, []}
 use native.Mathlib.Omega.{arith}
 use lib.ListN.{length, length-append}
-use Rattle.bytes_at.specs.declared.Walk.TheVariants.{To}
+use Rattle.std.specs.Prelude.{Ok}
 use Rattle.bytes_at.specs.Fields.{byte_at}
 use Rattle.bytes_at.proofs.WalkLaws.{then_inv, skipped}
 use Rattle.format.proofs.KeptLaws.{laws}
@@ -20,8 +20,8 @@ use Rattle.strings.specs.Strings.{text, sized_text}
 use Rattle.strings.specs.Places.{text_at, text_end}
 
 -- where a walk past it stands: it ends there, and its text fills what is between
-module _ (s : List ℕ) (end at b : ℕ) (w : walks sized_text s end at ≡ To b) where
-  passed : (b ≡ at + 1 + byte_at s at) × ((b ≤ end) × (walks_all text s b (at + 1) ≡ To b))
+module _ (s : List ℕ) (end at b : ℕ) (w : walks sized_text s end at ≡ Ok b) where
+  passed : (b ≡ at + 1 + byte_at s at) × ((b ≤ end) × (walks_all text s b (at + 1) ≡ Ok b))
   unfolding sized_text
   passed =
       let p = then_inv _ _ b w in
@@ -31,7 +31,7 @@ module _ (s : List ℕ) (end at b : ℕ) (w : walks sized_text s end at ≡ To b
       let v = (text.law laws (record {})).whole s q.0 p.0 b q.1.1 in
       let z : byte_at s (p.0 - 1) ≡ byte_at s at = ap (byte_at s) (omega arith) in (
         omega (arith, t, u, v, z),
-        (omega (arith, u, v), subst (λ e. walks_all text s e (at + 1) ≡ To b) (omega (arith, v)) (subst (λ a. walks_all text s q.0 a ≡ To b) t.0 q.1.1)),
+        (omega (arith, u, v), subst (λ e. walks_all text s e (at + 1) ≡ Ok b) (omega (arith, v)) (subst (λ a. walks_all text s q.0 a ≡ Ok b) t.0 q.1.1)),
       )
 
   pub text_end_lem : b ≡ text_end s at
@@ -42,18 +42,18 @@ module _ (s : List ℕ) (end at b : ℕ) (w : walks sized_text s end at ≡ To b
   text_inside = (omega (arith, passed.0), passed.1.0)
 
   -- its text is sound where it stands
-  pub text_sound : walks_all text s (text_end s at) (at + 1) ≡ To (text_end s at)
-  text_sound = subst (λ e. walks_all text s e (at + 1) ≡ To e) text_end_lem passed.1.1
+  pub text_sound : walks_all text s (text_end s at) (at + 1) ≡ Ok (text_end s at)
+  text_sound = subst (λ e. walks_all text s e (at + 1) ≡ Ok e) text_end_lem passed.1.1
 
 -- where a text lies with its length, its place is this
-pub text_there : (s : List ℕ) (at : ℕ) → Bytes s → (x : text.Val) → (sized8 text).Ok (record {}) (record {}, x)
+pub text_there : (s : List ℕ) (at : ℕ) → Bytes s → (x : text.Val) → (sized8 text).Formed (record {}) (record {}, x)
     → Lies ((sized8 text).enc (record {}, x)) s at
     → (text_at s at ≡ record { start = at + 1; length = length (text.enc x) }) × Lies (text.enc x) s (at + 1)
 unfolding text_at
 text_there s at z x o l = let t = sized8_there s z at text x o l in ((λ i. record { start = at + 1; length = t.0 i }), t.1)
 
 -- and it ends behind its encoding
-pub text_end_there : (s : List ℕ) (at : ℕ) → Bytes s → (x : text.Val) → (sized8 text).Ok (record {}) (record {}, x)
+pub text_end_there : (s : List ℕ) (at : ℕ) → Bytes s → (x : text.Val) → (sized8 text).Formed (record {}) (record {}, x)
     → Lies ((sized8 text).enc (record {}, x)) s at → text_end s at ≡ at + length ((sized8 text).enc (record {}, x))
 unfolding text_end
 text_end_there s at z x o l =

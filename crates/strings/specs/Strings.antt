@@ -1,6 +1,5 @@
 -- SCOPE 4.1: the multiple string structure, and its values by their names. A non-empty text field is filled exactly by one.
-use Rattle.std.specs.Prelude.{ℕ, refl, List, [], ◌∷◌}
-use Rattle.std.proofs.Math.Option.{none, some}
+use Rattle.std.specs.Prelude.{ℕ, refl, List, [], ◌∷◌, None, Some}
 use Rattle.format.specs.Formats.{Format, Filling, opt, under}
 use Rattle.format.specs.Values.{One, bits}
 use Rattle.format.specs.Told.{raws, counting, counted8, sized8}
@@ -42,13 +41,13 @@ text = opt structure (λ ss o. counting_full [] 0 refl string (record {}, ss) o)
 -- the strings of a text; nothing has none
 unfoldable pub strings_of : text.Val → List StringFields
 unfolding text structure
-strings_of none = []
-strings_of (some ss) = ss
+strings_of None = []
+strings_of (Some ss) = ss
 
 -- a structure, as the text that it is
 unfoldable pub as_text : structure.Val → text.Val
 unfolding text
-as_text x = some x
+as_text x = Some x
 
 -- a length of 8 bits and a text of that length
 unfoldable pub sized_text : Format One

@@ -7,16 +7,13 @@ ghost use Rattle.format.specs.Formats.{walks, walks_all};
 ghost use Rattle.strings.specs.Strings.{segment, string, structure, text, sized_text};
 ghost use Rattle.strings.specs.Places.{text_at, text_end};
 
-use bytes_at::{Walk, at_end, back, byte, skip, skip_fields};
+use bytes_at::{Walk, at_end, back, byte, repeated, skip, skip_fields};
 use part::Part;
 
 fn one_segment(s: &[u8], end: usize, at: usize) -> Walk
     ensures { result ≡ walks segment s.now end at }
 {
-    let w = skip_fields(at, 8, 8, 8, 0, end);
-    let Walk::To(b) = w else {
-        return w;
-    };
+    let b = skip_fields(at, 8, 8, 8, 0, end)?;
     skip(1, b, back(s, b, 1), end)
 }
 
@@ -24,26 +21,13 @@ fn one_segment(s: &[u8], end: usize, at: usize) -> Walk
 pub fn segments(s: &[u8], end: usize, n: usize, from: usize) -> Walk
     ensures { result ≡ many (walks segment s.now end) n from }
 {
-    let mut at = from;
-    let mut left = n;
-    while 0 < left {
-        let w = one_segment(s, end, at);
-        let Walk::To(b) = w else {
-            return w;
-        };
-        at = b;
-        left -= 1;
-    }
-    Walk::To(at)
+    repeated(n, from, |at| one_segment(s, end, at))
 }
 
 fn one_string(s: &[u8], end: usize, at: usize) -> Walk
     ensures { result ≡ walks string s.now end at }
 {
-    let w = skip_fields(at, 24, 8, 0, 0, end);
-    let Walk::To(b) = w else {
-        return w;
-    };
+    let b = skip_fields(at, 24, 8, 0, 0, end)?;
     segments(s, end, back(s, b, 1), b)
 }
 
@@ -51,27 +35,14 @@ fn one_string(s: &[u8], end: usize, at: usize) -> Walk
 pub fn strings(s: &[u8], end: usize, n: usize, from: usize) -> Walk
     ensures { result ≡ many (walks string s.now end) n from }
 {
-    let mut at = from;
-    let mut left = n;
-    while 0 < left {
-        let w = one_string(s, end, at);
-        let Walk::To(b) = w else {
-            return w;
-        };
-        at = b;
-        left -= 1;
-    }
-    Walk::To(at)
+    repeated(n, from, |at| one_string(s, end, at))
 }
 
 // A structure: number_strings and the strings.
 pub fn all_strings(s: &[u8], end: usize, at: usize) -> Walk
     ensures { result ≡ walks structure s.now end at }
 {
-    let w = skip(0, at, 1, end);
-    let Walk::To(b) = w else {
-        return w;
-    };
+    let b = skip(0, at, 1, end)?;
     strings(s, end, back(s, b, 1), b)
 }
 
@@ -80,12 +51,9 @@ pub fn whole_text(s: &[u8], end: usize, at: usize) -> Walk
     ensures { result ≡ walks_all text s.now end at }
 {
     if at == end {
-        return Walk::To(at);
+        return Ok(at);
     }
-    let w = all_strings(s, end, at);
-    let Walk::To(b) = w else {
-        return w;
-    };
+    let b = all_strings(s, end, at)?;
     at_end(b, end)
 }
 
@@ -93,14 +61,8 @@ pub fn whole_text(s: &[u8], end: usize, at: usize) -> Walk
 pub fn sized_text(s: &[u8], end: usize, at: usize) -> Walk
     ensures { result ≡ walks sized_text s.now end at }
 {
-    let w = skip(0, at, 1, end);
-    let Walk::To(b) = w else {
-        return w;
-    };
-    let v = skip(1, b, back(s, b, 1), end);
-    let Walk::To(e) = v else {
-        return v;
-    };
+    let b = skip(0, at, 1, end)?;
+    let e = skip(1, b, back(s, b, 1), end)?;
     whole_text(s, e, b)
 }
 

@@ -1,7 +1,8 @@
 -- The numbers of a rating, of a descriptor and of an advisory's text. SCOPE 3.3, 3.4 and 6.
 use Rattle.std.specs.Prelude.{ℕ, List, [], ◌∷◌}
 use Rattle.part.specs.declared.Part.{Part}
-use Rattle.rating.specs.Values.{Rated, no_advisory, region_absent, dimension_absent, value, Descriptor}
+use Rattle.rating.specs.Values.{Rated, no_advisory, region_absent, dimension_absent, value}
+use Rattle.rating.specs.declared.Descriptor.{Descriptor}
 use Rattle.refusal.specs.Outputs.{no_value}
 
 -- which answer it is, and the value; an answer without one has no value

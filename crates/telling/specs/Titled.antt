@@ -1,6 +1,6 @@
 -- The numbers that are told of all events and titles. SCOPE 3.1 and 4.4.
 use Rattle.std.specs.Prelude.{ℕ, List, [], ◌∷◌}
-use Rattle.titles.specs.Titles.{Counts}
+use Rattle.titles.specs.declared.Counts.{Counts}
 
 -- how many events there are, and how many units their titles have
 abbrev pub counts_numbers : Counts → List ℕ

@@ -1,13 +1,14 @@
 // What is answered about an event or its descriptor list, as it is told.
 ghost use Rattle.std.specs.Prelude.{◌≡◌, map};
 ghost use Rattle.rating.specs.Ratings.{rated_of};
-ghost use Rattle.reading.specs.Eits.{rating_outcome, descriptor_outcome, text_outcome};
+ghost use Rattle.refusal.specs.Outcomes.{outcome, outcome_by};
 ghost use Rattle.telling.specs.Told.{Told, noted};
 ghost use Rattle.telling.specs.Ratings.{rating_numbers, descriptor_numbers, text_numbers};
 
 use crate::told::{NO_VALUE, number_of, three, two};
 use rating::Rating;
-use reading::eits::{DescriptorAnswer, RatingAnswer, TextAnswer};
+use reading::eits::{Descriptor, Part};
+use refusal::Refusal;
 
 // An answer without a value is never told as the value 0.
 fn rating_numbers(rating: Rating) -> [u32; 2]
@@ -22,36 +23,36 @@ fn rating_numbers(rating: Rating) -> [u32; 2]
 }
 
 // Each sort of answer, as it is told.
-pub fn tell_rating(answer: RatingAnswer, told: &mut [u32; 2]) -> u32
-    ensures { Told rating_numbers (rating_outcome answer) told.old result told.new }
+pub fn tell_rating(answer: Result<Rating, Refusal>, told: &mut [u32; 2]) -> u32
+    ensures { Told rating_numbers (outcome_by rated_of answer) told.old result told.new }
 {
     match answer {
-        RatingAnswer::Refused(k) => number_of(k),
-        RatingAnswer::Is(r) => {
+        Err(k) => number_of(k),
+        Ok(r) => {
             *told = rating_numbers(r);
             0
         }
     }
 }
 
-pub fn tell_descriptor(answer: DescriptorAnswer, told: &mut [u32; 3]) -> u32
-    ensures { Told descriptor_numbers (descriptor_outcome answer) told.old result told.new }
+pub fn tell_descriptor(answer: Result<Descriptor, Refusal>, told: &mut [u32; 3]) -> u32
+    ensures { Told descriptor_numbers (outcome answer) told.old result told.new }
 {
     match answer {
-        DescriptorAnswer::Refused(k) => number_of(k),
-        DescriptorAnswer::Is(tag, p) => {
-            *told = three(tag, p.start, p.length);
+        Err(k) => number_of(k),
+        Ok(d) => {
+            *told = three(d.tag, d.start, d.size);
             0
         }
     }
 }
 
-pub fn tell_text(answer: TextAnswer, told: &mut [u32; 2]) -> u32
-    ensures { Told text_numbers (text_outcome answer) told.old result told.new }
+pub fn tell_text(answer: Result<Part, Refusal>, told: &mut [u32; 2]) -> u32
+    ensures { Told text_numbers (outcome answer) told.old result told.new }
 {
     match answer {
-        TextAnswer::Refused(k) => number_of(k),
-        TextAnswer::Is(p) => {
+        Err(k) => number_of(k),
+        Ok(p) => {
             *told = two(p.start, p.length);
             0
         }

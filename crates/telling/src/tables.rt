@@ -1,10 +1,6 @@
 // The tables' records and their entries, as they are told.
 ghost use Rattle.std.specs.Prelude.{◌≡◌, map};
-ghost use Rattle.reading.specs.Mgts;
-ghost use Rattle.reading.specs.Tvcts;
-ghost use Rattle.reading.specs.Rrts;
-ghost use Rattle.reading.specs.Eits;
-ghost use Rattle.reading.specs.Etts;
+ghost use Rattle.refusal.specs.Outcomes.{outcome};
 ghost use Rattle.telling.specs.Told.{Told, noted};
 ghost use Rattle.telling.specs.Tables.{mgt_numbers, defined_numbers, tvct_numbers, channel_numbers, rrt_numbers, dimension_numbers, value_numbers, eit_numbers, title_sort, title_place_told, event_numbers, ett_numbers};
 
@@ -14,15 +10,16 @@ use eit::{Event, Title};
 use mgt::Defined;
 use part::Part;
 use reading::{eits, etts, mgts, rrts, tvcts};
+use refusal::Refusal;
 use rrt::Table;
 
 // An MGT: the count of defined tables and the table's own descriptors.
-pub fn tell_mgt(answer: mgts::TableAnswer, fields: &mut [u32; 3]) -> u32
-    ensures { Told mgt_numbers (Mgts.fields_outcome answer) fields.old result fields.new }
+pub fn tell_mgt(answer: Result<mgts::Table, Refusal>, fields: &mut [u32; 3]) -> u32
+    ensures { Told mgt_numbers (outcome answer) fields.old result fields.new }
 {
     match answer {
-        mgts::TableAnswer::Refused(k) => number_of(k),
-        mgts::TableAnswer::Are(t) => {
+        Err(k) => number_of(k),
+        Ok(t) => {
             let d = t.descriptors;
             *fields = three(t.tables_defined, d.start, d.length);
             0
@@ -45,12 +42,12 @@ fn defined_numbers(t: Defined) -> [u32; 6]
 }
 
 // A defined table.
-pub fn tell_defined(answer: mgts::EntryAnswer, fields: &mut [u32; 6]) -> u32
-    ensures { Told defined_numbers (Mgts.entry_outcome answer) fields.old result fields.new }
+pub fn tell_defined(answer: Result<mgts::Defined, Refusal>, fields: &mut [u32; 6]) -> u32
+    ensures { Told defined_numbers (outcome answer) fields.old result fields.new }
 {
     match answer {
-        mgts::EntryAnswer::Refused(k) => number_of(k),
-        mgts::EntryAnswer::Is(t) => {
+        Err(k) => number_of(k),
+        Ok(t) => {
             *fields = defined_numbers(t);
             0
         }
@@ -58,12 +55,12 @@ pub fn tell_defined(answer: mgts::EntryAnswer, fields: &mut [u32; 6]) -> u32
 }
 
 // A TVCT: the transport stream, the count of channels and the table's own descriptors.
-pub fn tell_tvct(answer: tvcts::TableAnswer, fields: &mut [u32; 4]) -> u32
-    ensures { Told tvct_numbers (Tvcts.fields_outcome answer) fields.old result fields.new }
+pub fn tell_tvct(answer: Result<tvcts::Table, Refusal>, fields: &mut [u32; 4]) -> u32
+    ensures { Told tvct_numbers (outcome answer) fields.old result fields.new }
 {
     match answer {
-        tvcts::TableAnswer::Refused(k) => number_of(k),
-        tvcts::TableAnswer::Are(t) => {
+        Err(k) => number_of(k),
+        Ok(t) => {
             let d = t.descriptors;
             *fields = four(t.tsid, t.count, d.start, d.length);
             0
@@ -105,12 +102,12 @@ fn channel_numbers(c: Channel) -> [u32; 21]
 }
 
 // A channel.
-pub fn tell_channel(answer: tvcts::EntryAnswer, fields: &mut [u32; 21]) -> u32
-    ensures { Told channel_numbers (Tvcts.entry_outcome answer) fields.old result fields.new }
+pub fn tell_channel(answer: Result<tvcts::Channel, Refusal>, fields: &mut [u32; 21]) -> u32
+    ensures { Told channel_numbers (outcome answer) fields.old result fields.new }
 {
     match answer {
-        tvcts::EntryAnswer::Refused(k) => number_of(k),
-        tvcts::EntryAnswer::Is(c) => {
+        Err(k) => number_of(k),
+        Ok(c) => {
             *fields = channel_numbers(c);
             0
         }
@@ -134,12 +131,12 @@ fn rrt_numbers(t: Table) -> [u32; 7]
 }
 
 // An RRT: the region and its name, the count of dimensions and the table's own descriptors.
-pub fn tell_rrt(answer: rrts::TableAnswer, fields: &mut [u32; 7]) -> u32
-    ensures { Told rrt_numbers (Rrts.fields_outcome answer) fields.old result fields.new }
+pub fn tell_rrt(answer: Result<rrts::Table, Refusal>, fields: &mut [u32; 7]) -> u32
+    ensures { Told rrt_numbers (outcome answer) fields.old result fields.new }
 {
     match answer {
-        rrts::TableAnswer::Refused(k) => number_of(k),
-        rrts::TableAnswer::Are(t) => {
+        Err(k) => number_of(k),
+        Ok(t) => {
             *fields = rrt_numbers(t);
             0
         }
@@ -147,12 +144,12 @@ pub fn tell_rrt(answer: rrts::TableAnswer, fields: &mut [u32; 7]) -> u32
 }
 
 // A dimension.
-pub fn tell_dimension(answer: rrts::EntryAnswer, fields: &mut [u32; 4]) -> u32
-    ensures { Told dimension_numbers (Rrts.entry_outcome answer) fields.old result fields.new }
+pub fn tell_dimension(answer: Result<rrts::Dimension, Refusal>, fields: &mut [u32; 4]) -> u32
+    ensures { Told dimension_numbers (outcome answer) fields.old result fields.new }
 {
     match answer {
-        rrts::EntryAnswer::Refused(k) => number_of(k),
-        rrts::EntryAnswer::Is(d) => {
+        Err(k) => number_of(k),
+        Ok(d) => {
             let name = d.name;
             *fields = four(name.start, name.length, d.graduated_scale, d.values);
             0
@@ -161,12 +158,12 @@ pub fn tell_dimension(answer: rrts::EntryAnswer, fields: &mut [u32; 4]) -> u32
 }
 
 // The texts of a value.
-pub fn tell_value(answer: rrts::ValueAnswer, fields: &mut [u32; 4]) -> u32
-    ensures { Told value_numbers (Rrts.value_outcome answer) fields.old result fields.new }
+pub fn tell_value(answer: Result<rrts::ValueTexts, Refusal>, fields: &mut [u32; 4]) -> u32
+    ensures { Told value_numbers (outcome answer) fields.old result fields.new }
 {
     match answer {
-        rrts::ValueAnswer::Refused(k) => number_of(k),
-        rrts::ValueAnswer::Is(v) => {
+        Err(k) => number_of(k),
+        Ok(v) => {
             let short = v.short_text;
             let long = v.long_text;
             *fields = four(short.start, short.length, long.start, long.length);
@@ -176,12 +173,12 @@ pub fn tell_value(answer: rrts::ValueAnswer, fields: &mut [u32; 4]) -> u32
 }
 
 // An EIT: the source and the count of events.
-pub fn tell_eit(answer: eits::TableAnswer, fields: &mut [u32; 2]) -> u32
-    ensures { Told eit_numbers (Eits.fields_outcome answer) fields.old result fields.new }
+pub fn tell_eit(answer: Result<eits::Table, Refusal>, fields: &mut [u32; 2]) -> u32
+    ensures { Told eit_numbers (outcome answer) fields.old result fields.new }
 {
     match answer {
-        eits::TableAnswer::Refused(k) => number_of(k),
-        eits::TableAnswer::Are(t) => {
+        Err(k) => number_of(k),
+        Ok(t) => {
             *fields = two(t.source, t.count);
             0
         }
@@ -232,12 +229,12 @@ fn event_numbers(e: Event) -> [u32; 9]
 }
 
 // An event.
-pub fn tell_event(answer: eits::EntryAnswer, fields: &mut [u32; 9]) -> u32
-    ensures { Told event_numbers (Eits.entry_outcome answer) fields.old result fields.new }
+pub fn tell_event(answer: Result<eits::Event, Refusal>, fields: &mut [u32; 9]) -> u32
+    ensures { Told event_numbers (outcome answer) fields.old result fields.new }
 {
     match answer {
-        eits::EntryAnswer::Refused(k) => number_of(k),
-        eits::EntryAnswer::Is(e) => {
+        Err(k) => number_of(k),
+        Ok(e) => {
             *fields = event_numbers(e);
             0
         }
@@ -245,12 +242,12 @@ pub fn tell_event(answer: eits::EntryAnswer, fields: &mut [u32; 9]) -> u32
 }
 
 // An ETT: the extension, ETM_id and where the text stands.
-pub fn tell_ett(answer: etts::TableAnswer, fields: &mut [u32; 4]) -> u32
-    ensures { Told ett_numbers (Etts.fields_outcome answer) fields.old result fields.new }
+pub fn tell_ett(answer: Result<etts::Table, Refusal>, fields: &mut [u32; 4]) -> u32
+    ensures { Told ett_numbers (outcome answer) fields.old result fields.new }
 {
     match answer {
-        etts::TableAnswer::Refused(k) => number_of(k),
-        etts::TableAnswer::Are(t) => {
+        Err(k) => number_of(k),
+        Ok(t) => {
             let p = t.text;
             *fields = four(t.extension, t.etm_id, p.start, p.length);
             0

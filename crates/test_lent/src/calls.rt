@@ -179,11 +179,7 @@ fn delivers(
 }
 
 fn clear(rows: &mut [u32]) {
-    let mut i = 0;
-    while i < rows.len() {
-        rows[i] = 0;
-        i += 1;
-    }
+    rows.fill(0);
 }
 
 // Memory of zeros alone, or what there was where its sizes are refused.

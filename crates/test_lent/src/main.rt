@@ -10,48 +10,35 @@ use std::io;
 use test_lines::digest::of_bytes;
 use test_lines::{ROOM, number};
 
-// What is held after a vector, and whether there was one.
-#[derive(Clone, Copy)]
-struct Next {
-    more: bool,
-    held: Held,
-}
-
+// What is held after a vector, if there was one.
 fn step(
     rt: &(impl Input + Print),
     n: u64,
     h: Held,
     rows: &mut [u32],
     area: &mut [u8],
-) -> io::Result<Next> {
+) -> io::Result<Option<Held>> {
     let mut b = [0u8; ROOM];
-    let v = test_lines::next(rt, n, &mut b)?;
-    if !v.more {
-        return Ok(Next {
-            more: false,
-            held: h,
-        });
-    }
+    let Some(v) = test_lines::next(rt, n, &mut b)? else {
+        return Ok(None);
+    };
     let held = calls::answer(rt, v, h, rows, area, part_of(&b, 0, v.size))?;
     number(rt, of_records(calls::shelf_of(held, rows)))?;
     number(rt, of_bytes(area))?;
     test_lines::say(rt, b"\n")?;
-    Ok(Next { more: true, held })
+    Ok(Some(held))
 }
 
 // How many vectors there were.
 fn run(rt: &(impl Input + Print), rows: &mut [u32], area: &mut [u8]) -> io::Result<u64> {
     let mut h = calls::blank(1, 1);
-    let mut n: u64 = 0;
-    while n < u64::MAX {
-        let next = step(rt, n, h, rows, area)?;
-        if !next.more {
+    for n in 0..u64::MAX {
+        let Some(held) = step(rt, n, h, rows, area)? else {
             return Ok(n);
-        }
-        h = next.held;
-        n += 1;
+        };
+        h = held;
     }
-    Ok(n)
+    Ok(u64::MAX)
 }
 
 fn main(rt: HostRuntime) -> io::Result<()> {

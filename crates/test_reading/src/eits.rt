@@ -1,22 +1,10 @@
 // Questions to EIT and ETT.
-use crate::show::part;
-use crate::{show, stored};
-use reading::eits;
-use reading::eits::{
-    DescriptorAnswer, EntryAnswer, Event, RatingAnswer, TableAnswer, TextAnswer, Title,
-};
+use crate::show::{part, rating};
+use crate::stored;
+use reading::eits::{Descriptor, Event, Title};
+use reading::{eits, etts};
 use std::io;
-use test_lines::{Vector, number, refused, say};
-
-fn fields(rt: &impl Print, s: &[u8]) -> io::Result<()> {
-    match eits::fields(s) {
-        TableAnswer::Refused(k) => refused(rt, k),
-        TableAnswer::Are(t) => {
-            number(rt, t.source)?;
-            number(rt, t.count)
-        }
-    }
-}
+use test_lines::{Vector, answered, numbers, say};
 
 fn title(rt: &impl Print, t: Title) -> io::Result<()> {
     match t {
@@ -29,70 +17,41 @@ fn title(rt: &impl Print, t: Title) -> io::Result<()> {
     }
 }
 
-fn show_event(rt: &impl Print, e: Event) -> io::Result<()> {
-    number(rt, e.event_id)?;
-    number(rt, e.start_time)?;
-    number(rt, e.etm_location)?;
-    number(rt, e.length_in_seconds)?;
-    let t = e.title;
-    title(rt, t)?;
-    let d = e.descriptors;
-    part(rt, d)
+fn event(rt: &impl Print, e: Event) -> io::Result<()> {
+    numbers(
+        rt,
+        &[
+            e.event_id,
+            e.start_time,
+            e.etm_location,
+            e.length_in_seconds,
+        ],
+    )?;
+    title(rt, e.title)?;
+    part(rt, e.descriptors)
 }
 
-fn event(rt: &impl Print, s: &[u8], i: usize) -> io::Result<()> {
-    match eits::entry(s, i) {
-        EntryAnswer::Refused(k) => refused(rt, k),
-        EntryAnswer::Is(e) => show_event(rt, e),
-    }
-}
-
-fn show_rating(rt: &impl Print, said: RatingAnswer) -> io::Result<()> {
-    match said {
-        RatingAnswer::Refused(k) => refused(rt, k),
-        RatingAnswer::Is(r) => show::rating(rt, r),
-    }
-}
-
-fn show_descriptor(rt: &impl Print, said: DescriptorAnswer) -> io::Result<()> {
-    match said {
-        DescriptorAnswer::Refused(r) => refused(rt, r),
-        DescriptorAnswer::Is(tag, p) => {
-            number(rt, tag)?;
-            part(rt, p)
-        }
-    }
-}
-
-fn show_text(rt: &impl Print, said: TextAnswer) -> io::Result<()> {
-    match said {
-        TextAnswer::Refused(k) => refused(rt, k),
-        TextAnswer::Is(p) => part(rt, p),
-    }
+fn descriptor(rt: &impl Print, d: Descriptor) -> io::Result<()> {
+    numbers(rt, &[d.tag, d.start, d.size])
 }
 
 pub fn answer(rt: &impl Print, v: Vector, s: &[u8]) -> io::Result<()> {
     match v.op % 16 {
-        1 => fields(rt, s),
-        2 => event(rt, s, v.a),
+        1 => answered(rt, eits::fields(s), |t| numbers(rt, &[t.source, t.count])),
+        2 => answered(rt, eits::entry(s, v.a), |e| event(rt, e)),
         3 => stored::answer(rt, v, s),
-        4 => show_rating(rt, eits::rating(s, v.a, v.b, v.c)),
-        5 => show_descriptor(rt, eits::descriptor(s, v.a, v.b)),
-        6 => show_text(rt, eits::advisory_text(s, v.a, v.b)),
-        7 => show_rating(rt, eits::list_rating(s, v.a, v.b)),
-        8 => show_descriptor(rt, eits::list_descriptor(s, v.a)),
-        _ => show_text(rt, eits::list_text(s, v.a)),
+        4 => answered(rt, eits::rating(s, v.a, v.b, v.c), |r| rating(rt, r)),
+        5 => answered(rt, eits::descriptor(s, v.a, v.b), |d| descriptor(rt, d)),
+        6 => answered(rt, eits::advisory_text(s, v.a, v.b), |p| part(rt, p)),
+        7 => answered(rt, eits::list_rating(s, v.a, v.b), |r| rating(rt, r)),
+        8 => answered(rt, eits::list_descriptor(s, v.a), |d| descriptor(rt, d)),
+        _ => answered(rt, eits::list_text(s, v.a), |p| part(rt, p)),
     }
 }
 
 pub fn ett(rt: &impl Print, s: &[u8]) -> io::Result<()> {
-    match reading::etts::fields(s) {
-        reading::etts::TableAnswer::Refused(k) => refused(rt, k),
-        reading::etts::TableAnswer::Are(t) => {
-            number(rt, t.extension)?;
-            number(rt, t.etm_id)?;
-            let p = t.text;
-            part(rt, p)
-        }
-    }
+    answered(rt, etts::fields(s), |t| {
+        numbers(rt, &[t.extension, t.etm_id])?;
+        part(rt, t.text)
+    })
 }

@@ -10,9 +10,8 @@ mod show;
 mod stored;
 mod tvcts;
 
-use part::part_of;
 use std::io;
-use test_lines::{ROOM, Vector};
+use test_lines::{Vector, each};
 
 fn answer(rt: &impl Print, v: Vector, s: &[u8]) -> io::Result<()> {
     match v.op / 16 {
@@ -25,20 +24,6 @@ fn answer(rt: &impl Print, v: Vector, s: &[u8]) -> io::Result<()> {
     }
 }
 
-fn step(rt: &(impl Input + Print), n: u64, s: &mut [u8]) -> io::Result<bool> {
-    let v = test_lines::next(rt, n, s)?;
-    if v.more {
-        answer(rt, v, part_of(s, 0, v.size))?;
-        test_lines::say(rt, b"\n")?;
-    }
-    Ok(v.more)
-}
-
 fn main(rt: HostRuntime) -> io::Result<()> {
-    let mut s = [0u8; ROOM];
-    let mut n: u64 = 0;
-    while n < u64::MAX && step(&rt, n, &mut s)? {
-        n += 1;
-    }
-    test_lines::end(&rt, n)
+    each(&rt, |v, s| answer(&rt, v, s))
 }

@@ -2,39 +2,24 @@
 use crate::show::part;
 use crate::stored;
 use reading::mgts;
-use reading::mgts::{EntryAnswer, TableAnswer};
+use reading::mgts::{Defined, Table};
 use std::io;
-use test_lines::{Vector, number, refused};
+use test_lines::{Vector, answered, number, numbers};
 
-fn fields(rt: &impl Print, s: &[u8]) -> io::Result<()> {
-    match mgts::fields(s) {
-        TableAnswer::Refused(k) => refused(rt, k),
-        TableAnswer::Are(t) => {
-            number(rt, t.tables_defined)?;
-            let d = t.descriptors;
-            part(rt, d)
-        }
-    }
+fn table(rt: &impl Print, t: Table) -> io::Result<()> {
+    number(rt, t.tables_defined)?;
+    part(rt, t.descriptors)
 }
 
-fn entry(rt: &impl Print, s: &[u8], i: usize) -> io::Result<()> {
-    match mgts::entry(s, i) {
-        EntryAnswer::Refused(k) => refused(rt, k),
-        EntryAnswer::Is(e) => {
-            number(rt, e.table_type)?;
-            number(rt, e.pid)?;
-            number(rt, e.version)?;
-            number(rt, e.number_bytes)?;
-            let d = e.descriptors;
-            part(rt, d)
-        }
-    }
+fn defined(rt: &impl Print, e: Defined) -> io::Result<()> {
+    numbers(rt, &[e.table_type, e.pid, e.version, e.number_bytes])?;
+    part(rt, e.descriptors)
 }
 
 pub fn answer(rt: &impl Print, v: Vector, s: &[u8]) -> io::Result<()> {
     match v.op % 16 {
-        1 => fields(rt, s),
-        2 => entry(rt, s, v.a),
+        1 => answered(rt, mgts::fields(s), |t| table(rt, t)),
+        2 => answered(rt, mgts::entry(s, v.a), |e| defined(rt, e)),
         _ => stored::answer(rt, v, s),
     }
 }

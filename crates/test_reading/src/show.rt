@@ -2,15 +2,10 @@
 use part::Part;
 use rating::Rating;
 use std::io;
-use test_lines::{number, say, told};
+use test_lines::{numbers, say, told};
 
 pub fn part(rt: &impl Print, p: Part) -> io::Result<()> {
-    number(rt, p.start)?;
-    number(rt, p.length)
-}
-
-pub fn short(rt: &impl Print, n: u32) -> io::Result<()> {
-    number(rt, n as usize)
+    numbers(rt, &[p.start, p.length])
 }
 
 pub fn rating(rt: &impl Print, r: Rating) -> io::Result<()> {

@@ -1,73 +1,59 @@
 // Questions to TVCT.
-use crate::show::{part, short};
+use crate::show::part;
 use crate::stored;
 use reading::tvcts;
-use reading::tvcts::{Channel, EntryAnswer, Name, Service, TableAnswer, Tuning};
+use reading::tvcts::{Channel, Name, Service, Table, Tuning};
 use std::io;
-use test_lines::{Vector, number, refused};
+use test_lines::{Vector, answered, numbers};
 
-fn fields(rt: &impl Print, s: &[u8]) -> io::Result<()> {
-    match tvcts::fields(s) {
-        TableAnswer::Refused(k) => refused(rt, k),
-        TableAnswer::Are(t) => {
-            number(rt, t.tsid)?;
-            number(rt, t.count)?;
-            let d = t.descriptors;
-            part(rt, d)
-        }
-    }
+fn table(rt: &impl Print, t: Table) -> io::Result<()> {
+    numbers(rt, &[t.tsid, t.count])?;
+    part(rt, t.descriptors)
 }
 
 fn name(rt: &impl Print, n: Name) -> io::Result<()> {
-    short(rt, n.n0)?;
-    short(rt, n.n1)?;
-    short(rt, n.n2)?;
-    short(rt, n.n3)?;
-    short(rt, n.n4)?;
-    short(rt, n.n5)?;
-    short(rt, n.n6)
+    numbers(rt, &[n.n0, n.n1, n.n2, n.n3, n.n4, n.n5, n.n6])
 }
 
 fn tuning(rt: &impl Print, t: Tuning) -> io::Result<()> {
-    short(rt, t.major)?;
-    short(rt, t.minor)?;
-    short(rt, t.modulation)?;
-    short(rt, t.carrier)?;
-    short(rt, t.channel_tsid)?;
-    short(rt, t.program_number)
+    numbers(
+        rt,
+        &[
+            t.major,
+            t.minor,
+            t.modulation,
+            t.carrier,
+            t.channel_tsid,
+            t.program_number,
+        ],
+    )
 }
 
 fn service(rt: &impl Print, v: Service) -> io::Result<()> {
-    short(rt, v.etm_location)?;
-    short(rt, v.access_controlled)?;
-    short(rt, v.hidden)?;
-    short(rt, v.six_bits)?;
-    short(rt, v.service_type)?;
-    short(rt, v.source_id)
+    numbers(
+        rt,
+        &[
+            v.etm_location,
+            v.access_controlled,
+            v.hidden,
+            v.six_bits,
+            v.service_type,
+            v.source_id,
+        ],
+    )
 }
 
 fn channel(rt: &impl Print, c: Channel) -> io::Result<()> {
-    let n = c.name;
-    name(rt, n)?;
-    let t = c.tuning;
-    tuning(rt, t)?;
-    let v = c.service;
-    service(rt, v)?;
-    let d = c.descriptors;
-    part(rt, d)
-}
-
-fn entry(rt: &impl Print, s: &[u8], i: usize) -> io::Result<()> {
-    match tvcts::entry(s, i) {
-        EntryAnswer::Refused(k) => refused(rt, k),
-        EntryAnswer::Is(c) => channel(rt, c),
-    }
+    name(rt, c.name)?;
+    tuning(rt, c.tuning)?;
+    service(rt, c.service)?;
+    part(rt, c.descriptors)
 }
 
 pub fn answer(rt: &impl Print, v: Vector, s: &[u8]) -> io::Result<()> {
     match v.op % 16 {
-        1 => fields(rt, s),
-        2 => entry(rt, s, v.a),
+        1 => answered(rt, tvcts::fields(s), |t| table(rt, t)),
+        2 => answered(rt, tvcts::entry(s, v.a), |c| channel(rt, c)),
         _ => stored::answer(rt, v, s),
     }
 }

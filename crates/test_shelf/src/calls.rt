@@ -1,7 +1,8 @@
 // One call on a shelf, told by its name and its answer. The bytes have its arguments.
 use bytes_at::{byte, word};
-use part::part_of;
-use shelf::{Change, Fetched, Progress};
+use part::{Part, part_of};
+use refusal::Refusal;
+use shelf::Progress;
 use shelf_bytes::named;
 use shelf_state::{Asked, Shelf};
 use std::io;
@@ -12,34 +13,34 @@ fn key(b: &[u8]) -> Asked {
     named(word(b, 0), byte(b, 2), word(b, 3) as u16)
 }
 
-fn show_change(rt: &impl Print, answer: Change) -> io::Result<()> {
+fn show_change(rt: &impl Print, answer: Result<(), Refusal>) -> io::Result<()> {
     match answer {
-        Change::Refused(k) => refused(rt, k),
-        Change::Done => say(rt, b" done"),
+        Ok(()) => say(rt, b" done"),
+        Err(k) => refused(rt, k),
     }
 }
 
-fn show_progress(rt: &impl Print, answer: Progress) -> io::Result<()> {
+fn show_progress(rt: &impl Print, answer: Result<Progress, Refusal>) -> io::Result<()> {
     match answer {
-        Progress::Refused(k) => refused(rt, k),
-        Progress::NothingHeard => say(rt, b" nothing heard"),
-        Progress::Part { held, of } => {
+        Ok(Progress::NothingHeard) => say(rt, b" nothing heard"),
+        Ok(Progress::Part { held, of }) => {
             number(rt, held)?;
             told(rt, b" of", of)
         }
-        Progress::Complete { of } => told(rt, b" complete", of),
+        Ok(Progress::Complete { of }) => told(rt, b" complete", of),
+        Err(k) => refused(rt, k),
     }
 }
 
 // A section that was fetched is told by its place and a digest of its bytes.
-fn show_fetched(rt: &impl Print, answer: Fetched, area: &[u8]) -> io::Result<()> {
+fn show_fetched(rt: &impl Print, answer: Result<Part, Refusal>, area: &[u8]) -> io::Result<()> {
     match answer {
-        Fetched::Refused(k) => refused(rt, k),
-        Fetched::At(p) => {
+        Ok(p) => {
             number(rt, p.start)?;
             number(rt, p.length)?;
             number(rt, of_bytes(part_of(area, p.start, p.length)))
         }
+        Err(k) => refused(rt, k),
     }
 }
 
@@ -47,52 +48,42 @@ fn show_fetched(rt: &impl Print, answer: Fetched, area: &[u8]) -> io::Result<()>
 fn empties(rt: &impl Print, s: Shelf, b: &[u8]) -> io::Result<Shelf> {
     let r = shelf::empty(byte(b, 0), byte(b, 1));
     say(rt, b" empty")?;
-    let made = r.shelf;
-    let answer = r.answer;
-    show_change(rt, answer)?;
-    match answer {
-        Change::Refused(_k) => Ok(s),
-        Change::Done => Ok(made),
-    }
+    show_change(rt, r.answer)?;
+    Ok(if r.answer.is_ok() { r.shelf } else { s })
 }
 
 fn opens(rt: &impl Print, s: Shelf, area: &[u8], b: &[u8]) -> io::Result<Shelf> {
     let r = shelf::open(s, area, key(b), byte(b, 5));
     say(rt, b" open")?;
-    let answer = r.answer;
-    show_change(rt, answer)?;
+    show_change(rt, r.answer)?;
     Ok(r.shelf)
 }
 
 fn closes(rt: &impl Print, s: Shelf, area: &[u8], b: &[u8]) -> io::Result<Shelf> {
     let r = shelf::close(s, area, key(b));
     say(rt, b" close")?;
-    let answer = r.answer;
-    show_change(rt, answer)?;
+    show_change(rt, r.answer)?;
     Ok(r.shelf)
 }
 
 fn tells(rt: &impl Print, s: Shelf, area: &[u8], b: &[u8]) -> io::Result<Shelf> {
     let r = shelf::status(s, area, key(b));
     say(rt, b" status")?;
-    let answer = r.answer;
-    show_progress(rt, answer)?;
+    show_progress(rt, r.answer)?;
     Ok(r.shelf)
 }
 
 fn fetches(rt: &impl Print, s: Shelf, area: &[u8], b: &[u8]) -> io::Result<Shelf> {
     let r = shelf::fetch(s, area, key(b), word(b, 5));
     say(rt, b" fetch")?;
-    let answer = r.answer;
-    show_fetched(rt, answer, area)?;
+    show_fetched(rt, r.answer, area)?;
     Ok(r.shelf)
 }
 
 fn delivers(rt: &impl Print, s: Shelf, area: &mut [u8], b: &[u8]) -> io::Result<Shelf> {
     let r = shelf::deliver(s, area, word(b, 0), part_of(b, 2, b.len()));
     say(rt, b" deliver")?;
-    let answer = r.answer;
-    show_change(rt, answer)?;
+    show_change(rt, r.answer)?;
     Ok(r.shelf)
 }
 

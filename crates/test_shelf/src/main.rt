@@ -12,13 +12,6 @@ use std::io;
 use test_lines::digest::of_bytes;
 use test_lines::{ROOM, Vector, number};
 
-// The shelf after a vector, and whether there was one.
-#[derive(Clone, Copy)]
-struct Next {
-    more: bool,
-    shelf: Shelf,
-}
-
 fn call(rt: &impl Print, v: Vector, s: Shelf, area: &mut [u8], b: &[u8]) -> io::Result<Shelf> {
     let t = calls::answer(rt, v, s, area, b)?;
     number(rt, of_records(t))?;
@@ -34,37 +27,28 @@ fn answer(rt: &impl Print, v: Vector, s: Shelf, area: &mut [u8], b: &[u8]) -> io
     call(rt, v, s, area, b)
 }
 
-fn step(rt: &(impl Input + Print), n: u64, s: Shelf, area: &mut [u8]) -> io::Result<Next> {
+// The shelf after a vector, if there was one.
+fn step(rt: &(impl Input + Print), n: u64, s: Shelf, area: &mut [u8]) -> io::Result<Option<Shelf>> {
     let mut b = [0u8; ROOM];
-    let v = test_lines::next(rt, n, &mut b)?;
-    if !v.more {
-        return Ok(Next {
-            more: false,
-            shelf: s,
-        });
-    }
+    let Some(v) = test_lines::next(rt, n, &mut b)? else {
+        return Ok(None);
+    };
     let t = answer(rt, v, s, area, part_of(&b, 0, v.size))?;
     test_lines::say(rt, b"\n")?;
-    Ok(Next {
-        more: true,
-        shelf: t,
-    })
+    Ok(Some(t))
 }
 
 // How many vectors there were.
 fn run(rt: &(impl Input + Print), area: &mut [u8]) -> io::Result<u64> {
     let first = shelf::empty(1, 1);
     let mut s = first.shelf;
-    let mut n: u64 = 0;
-    while n < u64::MAX {
-        let next = step(rt, n, s, area)?;
-        if !next.more {
+    for n in 0..u64::MAX {
+        let Some(t) = step(rt, n, s, area)? else {
             return Ok(n);
-        }
-        s = next.shelf;
-        n += 1;
+        };
+        s = t;
     }
-    Ok(n)
+    Ok(u64::MAX)
 }
 
 fn main(rt: HostRuntime) -> io::Result<()> {

@@ -1,69 +1,21 @@
 // All events of a section with their titles, in two lent lists of which a and b are the lengths. All numbers of the one are 7 before
 // and all of the other 65535, behind what is lent too, so that the digests of the whole lists show what changed there.
 use std::io;
-use test_lines::digest::{none, number, told};
-use test_lines::{Vector, refused};
-use titles::{TitlesAnswer, titles};
+use test_lines::digest::of_numbers;
+use test_lines::{Vector, answered, told};
+use titles::{Counts, titles};
 
-fn short(x: u32) -> usize {
-    x as usize
-}
-
-fn unit(x: u16) -> usize {
-    x as usize
-}
-
-fn of_rows(l: &[u32]) -> usize {
-    let mut d = none();
-    let mut i = 0;
-    while i < l.len() {
-        d = number(d, short(l[i]));
-        i += 1;
-    }
-    told(d)
-}
-
-fn of_units(l: &[u16]) -> usize {
-    let mut d = none();
-    let mut i = 0;
-    while i < l.len() {
-        d = number(d, unit(l[i]));
-        i += 1;
-    }
-    told(d)
-}
-
-fn show(rt: &impl Print, a: TitlesAnswer) -> io::Result<()> {
-    match a {
-        TitlesAnswer::Refused(k) => refused(rt, k),
-        TitlesAnswer::Are { events, units } => {
-            test_lines::told(rt, b" events", events)?;
-            test_lines::told(rt, b" units", units)
-        }
-    }
-}
-
-fn lent(
-    rt: &impl Print,
-    v: Vector,
-    s: &[u8],
-    rows: &mut [u32],
-    units: &mut [u16],
-) -> io::Result<()> {
-    let a = v.a;
-    let b = v.b;
-    if a <= rows.len() {
-        if b <= units.len() {
-            show(rt, titles(s, &mut rows[..a], &mut units[..b]))?;
-        }
-    }
-    Ok(())
+fn show(rt: &impl Print, c: Counts) -> io::Result<()> {
+    told(rt, b" events", c.events)?;
+    told(rt, b" units", c.units)
 }
 
 pub fn answer(rt: &impl Print, v: Vector, s: &[u8]) -> io::Result<()> {
     let mut rows = [7u32; 3084];
     let mut units = [65535u16; 32800];
-    lent(rt, v, s, &mut rows, &mut units)?;
-    test_lines::told(rt, b" rows", of_rows(&rows))?;
-    test_lines::told(rt, b" text", of_units(&units))
+    if let (Some(r), Some(u)) = (rows.get_mut(..v.a), units.get_mut(..v.b)) {
+        answered(rt, titles(s, r, u), |c| show(rt, c))?;
+    }
+    told(rt, b" rows", of_numbers(&rows))?;
+    told(rt, b" text", of_numbers(&units))
 }

@@ -3,27 +3,14 @@
 ghost use Rattle.std.specs.Prelude.{◌≤◌, length};
 
 use crate::words::units;
-use segment::Judged;
+use refusal::Refusal;
 use std::io;
-use test_lines::{say, told};
+use test_lines::{answered, say, told};
 
 // The number of units, and 0 for a refusal.
-fn tell(rt: &impl Print, j: Judged) -> io::Result<usize> {
-    match j {
-        Judged::Units(k) => {
-            told(rt, b" units", k)?;
-            Ok(k)
-        }
-        Judged::Refused(r) => {
-            told(rt, b" refused", r as usize)?;
-            Ok(0)
-        }
-    }
-}
-
-// The text and the units beside it.
-fn with_edges(k: usize) -> usize {
-    if k < 4096 { k + 2 } else { k }
+fn tell(rt: &impl Print, judged: Result<usize, Refusal>) -> io::Result<usize> {
+    answered(rt, judged, |k| told(rt, b" units", k))?;
+    Ok(judged.unwrap_or(0))
 }
 
 fn decode(rt: &impl Print, titles: bool, s: &[u8]) -> io::Result<()>
@@ -32,21 +19,13 @@ fn decode(rt: &impl Print, titles: bool, s: &[u8]) -> io::Result<()>
     let mut out = [65535u16; 2048];
     tell(rt, segment::judge(titles, s))?;
     let k = tell(rt, segment::write(titles, s, &mut out, 3))?;
-    units(rt, &out, 2, with_edges(k))
+    units(rt, &out, 2, k.saturating_add(2))
 }
 
-fn short(rt: &impl Print, titles: bool, s: &[u8]) -> io::Result<()> {
+pub fn answer(rt: &impl Print, titles: bool, s: &[u8]) -> io::Result<()> {
     if s.len() <= 255 {
         decode(rt, titles, s)
     } else {
         say(rt, b" no segment")
     }
-}
-
-pub fn titled(rt: &impl Print, s: &[u8]) -> io::Result<()> {
-    short(rt, true, s)
-}
-
-pub fn described(rt: &impl Print, s: &[u8]) -> io::Result<()> {
-    short(rt, false, s)
 }

@@ -1,15 +1,15 @@
 // There and back: a section that was written is judged and read, and written again from nothing but what was read.
 use crate::show::digest;
-use crate::{filled, numbers};
+use crate::{ROOM, ROWS};
 use kind::Kind;
 use part::part_of;
-use reading::etts::TableAnswer;
-use rows::{Row, RowsAnswer, rows};
+use reading::etts;
+use refusal::Refusal;
+use rows::{Entry, rows};
 use section::write::Given;
-use section::{Head, Header, judge_any};
+use section::{Header, judge_any};
 use std::io;
-use test_lines::{refused, say};
-use writing::answer::Written;
+use test_lines::{answered, say};
 
 fn given_of(h: Header) -> Given {
     Given {
@@ -31,53 +31,44 @@ fn from_rows(
     out: &mut [u8],
 ) -> io::Result<()> {
     if count <= list.len() / 8 {
-        let n = 8 * count;
-        let w = writing::eits::write(given_of(h), count, &list[..n], s, out);
+        let w = writing::eits::write(given_of(h), count, &list[..8 * count], s, out);
         digest(rt, w, out)?;
     }
     Ok(())
 }
 
 fn eit(rt: &impl Print, h: Header, s: &[u8], out: &mut [u8]) -> io::Result<()> {
-    let mut list = numbers();
-    match rows(s, Row::Event, &mut list) {
-        RowsAnswer::Refused(k) => refused(rt, k),
-        RowsAnswer::Are(count) => from_rows(rt, h, s, count, &list, out),
-    }
+    let mut list = [0u32; ROWS];
+    answered(rt, rows(s, Entry::Event, &mut list), |count| {
+        from_rows(rt, h, s, count, &list, out)
+    })
 }
 
-fn ett(rt: &impl Print, h: Header, s: &[u8], out: &mut [u8]) -> io::Result<()> {
-    match reading::etts::fields(s) {
-        TableAnswer::Refused(k) => refused(rt, k),
-        TableAnswer::Are(t) => {
-            let p = t.text;
-            let text = part_of(s, p.start, p.length);
-            let w = writing::etts::write(given_of(h), t.etm_id, text, out);
-            digest(rt, w, out)
-        }
-    }
+fn from_text(
+    rt: &impl Print,
+    h: Header,
+    s: &[u8],
+    t: etts::Table,
+    out: &mut [u8],
+) -> io::Result<()> {
+    let text = part_of(s, t.text.start, t.text.length);
+    let w = writing::etts::write(given_of(h), t.etm_id, text, out);
+    digest(rt, w, out)
 }
 
 fn rewritten(rt: &impl Print, h: Header, s: &[u8]) -> io::Result<()> {
-    let mut out = filled();
-    let kind = h.kind;
-    match kind {
+    let mut out = [0xa5u8; ROOM];
+    match h.kind {
         Kind::Eit => eit(rt, h, s, &mut out),
-        _ => ett(rt, h, s, &mut out),
+        _ => answered(rt, etts::fields(s), |t| from_text(rt, h, s, t, &mut out)),
     }
 }
 
-fn judged(rt: &impl Print, s: &[u8]) -> io::Result<()> {
-    match judge_any(s) {
-        Head::Refused(k) => refused(rt, k),
-        Head::Passes(h) => rewritten(rt, h, s),
-    }
-}
-
-pub fn answer(rt: &impl Print, w: Written, out: &[u8]) -> io::Result<()> {
-    if let Written::Length(n) = w {
+pub fn answer(rt: &impl Print, w: Result<usize, Refusal>, out: &[u8]) -> io::Result<()> {
+    if let Ok(n) = w {
         say(rt, b" again")?;
-        judged(rt, part_of(out, 0, n))?;
+        let s = part_of(out, 0, n);
+        answered(rt, judge_any(s), |h| rewritten(rt, h, s))?;
     }
     Ok(())
 }

@@ -5,29 +5,23 @@
 mod again;
 mod show;
 
-ghost use Rattle.std.specs.Prelude.{◌≡◌, ◌≤◌, length};
+ghost use Rattle.std.specs.Prelude.{◌≤◌, length};
 
 use bytes_at::long;
 use part::part_of;
 use row::narrow;
 use section::write::Given;
 use std::io;
-use test_lines::{ROOM, Vector, say};
+use test_lines::{Vector, each};
 
 // The five numbers of a header stand before all else.
 const HEAD: usize = 20;
 
-fn filled() -> [u8; 4200]
-    ensures { 4200 ≡ length result }
-{
-    [0xa5u8; 4200]
-}
+// How many bytes a buffer has at most.
+const ROOM: usize = 4200;
 
-fn numbers() -> [u32; 2048]
-    ensures { 2048 ≡ length result }
-{
-    [0u32; 2048]
-}
+// How many numbers a list of rows has at most.
+const ROWS: usize = 2048;
 
 fn given(s: &[u8]) -> Given {
     Given {
@@ -39,23 +33,21 @@ fn given(s: &[u8]) -> Given {
     }
 }
 
-// The first n numbers of the rows, four bytes each.
-fn gather(s: &[u8], n: usize, rows: &mut [u32])
-    requires { (n ≤ 2048) × (n ≤ length rows.old) }
+// The numbers of the rows, four bytes each.
+fn gather(s: &[u8], rows: &mut [u32])
+    requires { length rows.old ≤ 2048 }
 {
-    let mut i = 0;
-    while i < n {
+    for i in 0..rows.len() {
         rows[i] = narrow(long(s, 4 * i));
-        i += 1;
     }
 }
 
 fn eit(rt: &impl Print, v: Vector, s: &[u8], rows: &mut [u32], out: &mut [u8]) -> io::Result<()>
     requires { length rows.old ≤ 2048 }
 {
-    let n = rows.len();
-    gather(part_of(s, HEAD, 4 * n), n, rows);
-    let data = part_of(s, HEAD + 4 * n, 65535);
+    let size = 4 * rows.len();
+    gather(part_of(s, HEAD, size), rows);
+    let data = part_of(s, HEAD + size, 65535);
     let w = writing::eits::write(given(s), v.a, rows, data, out);
     if v.op == 3 {
         show::bytes(rt, w, out)?;
@@ -67,12 +59,11 @@ fn eit(rt: &impl Print, v: Vector, s: &[u8], rows: &mut [u32], out: &mut [u8]) -
 
 // The rows have as many numbers as the vector's second one says.
 fn eit_with_rows(rt: &impl Print, v: Vector, s: &[u8], out: &mut [u8]) -> io::Result<()> {
-    let mut rows = numbers();
-    let n = v.b;
-    if n <= 2048 {
-        eit(rt, v, s, &mut rows[..n], out)?;
-    }
-    Ok(())
+    let mut list = [0u32; ROWS];
+    let Some(rows) = list.get_mut(..v.b) else {
+        return Ok(());
+    };
+    eit(rt, v, s, rows, out)
 }
 
 fn ett(rt: &impl Print, v: Vector, s: &[u8], out: &mut [u8]) -> io::Result<()> {
@@ -81,7 +72,12 @@ fn ett(rt: &impl Print, v: Vector, s: &[u8], out: &mut [u8]) -> io::Result<()> {
     again::answer(rt, w, out)
 }
 
-fn section(rt: &impl Print, v: Vector, s: &[u8], out: &mut [u8]) -> io::Result<()> {
+// The room that is lent is the vector's third number.
+fn answer(rt: &impl Print, v: Vector, s: &[u8]) -> io::Result<()> {
+    let mut room = [0xa5u8; ROOM];
+    let Some(out) = room.get_mut(..v.c) else {
+        return Ok(());
+    };
     if v.op == 2 {
         ett(rt, v, s, out)
     } else {
@@ -89,30 +85,6 @@ fn section(rt: &impl Print, v: Vector, s: &[u8], out: &mut [u8]) -> io::Result<(
     }
 }
 
-// The room that is lent is the vector's third number.
-fn answer(rt: &impl Print, v: Vector, s: &[u8]) -> io::Result<()> {
-    let mut out = filled();
-    let room = v.c;
-    if room <= 4200 {
-        section(rt, v, s, &mut out[..room])?;
-    }
-    Ok(())
-}
-
-fn step(rt: &(impl Input + Print), n: u64, s: &mut [u8]) -> io::Result<bool> {
-    let v = test_lines::next(rt, n, s)?;
-    if v.more {
-        answer(rt, v, part_of(s, 0, v.size))?;
-        say(rt, b"\n")?;
-    }
-    Ok(v.more)
-}
-
 fn main(rt: HostRuntime) -> io::Result<()> {
-    let mut s = [0u8; ROOM];
-    let mut n: u64 = 0;
-    while n < u64::MAX && step(&rt, n, &mut s)? {
-        n += 1;
-    }
-    test_lines::end(&rt, n)
+    each(&rt, |v, s| answer(&rt, v, s))
 }

@@ -4,9 +4,12 @@ use mathlib.Core.List.{List}
 use Prim.Native.Nat.{ℕ, zero, suc, ◌+◌, ◌-◌, ◌≤◌, ◌<◌}
 use native.Mathlib.Omega.{arith}
 use lib.ListN.{length}
-use Rattle.refusal.specs.Outcomes.{Outcome, refused, resulted, after}
+use Rattle.refusal.specs.Outcomes.{Outcome, refused, resulted, outcome, after}
 use Rattle.refusal.specs.Outputs.{counted}
-use Rattle.refusal.proofs.OutcomeLaws.{same_result, not_both}
+use Rattle.refusal.specs.declared.Refusal.{Refusal}
+use Rattle.std.specs.Prelude.{Result, Ok, Err, IsErrAnd, MatchResult}
+use Rattle.std.proofs.lemmas.Result.{err_from_is_err_and}
+use Rattle.refusal.proofs.OutcomeLaws.{same_result, not_both, stopped}
 use Rattle.refusal.proofs.OutputLaws.{from_number}
 use Rattle.bytes_at.specs.Fields.{byte_at}
 use Rattle.format.specs.Repeats.{Bytes}
@@ -17,9 +20,31 @@ use Rattle.text.specs.declared.segments.Way.{Way}
 use Rattle.text.specs.Answers.{amount_of}
 use Rattle.text.specs.Segments.{way_of}
 use Rattle.text.specs.Strings.{segment_replaced, string_at, joined_replaced, string_replaced}
-use Rattle.bytes_at.specs.Walks.{standing}
+use Rattle.bytes_at.specs.Walks.{Walk, standing}
+use Rattle.refusal.specs.declared.Refusal.TheVariants.{Body}
+use Rattle.refusal.specs.Numbers.{number_of}
 use Rattle.text.specs.Replaced.{replaced_by, told_from}
 
+-- ---- what an answer was, its meaning is
+pub told_as : {A : Type 0} {r v : Result A Refusal} {x : Outcome A} → outcome r ≡ x → r ≡ v → x ≡ outcome v
+told_as m e = sym m ∙ ap outcome e
+
+-- what a `?` hands on is the refusal of the step
+pub handed : {B : Type 0} {r : Result B Refusal} {k : Refusal} → IsErrAnd r (λ j. j ≡ k) → r ≡ Err k
+handed {r = r} m = let q = err_from_is_err_and r m in q.1 ∙ ap Err q.2
+
+pub exit : {A B : Type 0} (f : A → Outcome B) (r : Result B Refusal) {v : Result A Refusal} {x : Outcome A} {k : Refusal}
+    → IsErrAnd r (λ j. j ≡ k) → outcome v ≡ x → v ≡ Err k → outcome r ≡ after x f
+exit f r m e q = ap outcome (handed m) ∙ stopped f e q
+
+-- a walk's place, or 9
+pub stands_as : (w : Walk) (r : Result ℕ Refusal) (P : ℕ → Refusal → Type 0) → ((x : ℕ) (k : Refusal) → P x k → k ≡ Body)
+    → MatchResult w (λ b. r ≡ Ok b) (λ x. IsErrAnd r (P x)) → outcome r ≡ standing w
+unfolding standing
+stands_as (Ok b) r P f m = ap outcome m
+stands_as (Err x) r P f m = let q = err_from_is_err_and r m in ap outcome q.1 ∙ ap (λ (k : Refusal). refused (number_of k)) (f x q.0 q.2)
+
+-- ---- the amount
 pub amount_result : (p : ℕ) (us : List ℕ) → amount_of p (resulted us) ≡ resulted (record { units = length us; replaced = p })
 unfolding amount_of after
 amount_result p us = refl

@@ -4,10 +4,9 @@ use mathlib.Core.List.{List, [], ◌∷◌}
 use Prim.Native.Nat.{ℕ, zero, suc, ◌+◌, ◌-◌, ◌*◌, ◌≤◌}
 use native.Mathlib.Omega.{arith}
 use lib.ListN.{length, take, drop, length-take, length-append}
-use Rattle.bytes_at.specs.declared.Walk.{Walk}
-use Rattle.bytes_at.specs.declared.Walk.TheVariants.{To, Bad}
+use Rattle.std.specs.Prelude.{Ok, Err}
 use Rattle.bytes_at.specs.Fields.{byte_at}
-use Rattle.bytes_at.specs.Walks.{fields_to, then, many, standing}
+use Rattle.bytes_at.specs.Walks.{fields_to, then, many, standing, Walk}
 use Rattle.bytes_at.proofs.WalkLaws.{to_is, then_inv, skipped}
 use Rattle.refusal.specs.Outcomes.{Outcome, refused, resulted, after}
 use Rattle.refusal.proofs.OutcomeLaws.{same_result, not_both}
@@ -16,8 +15,6 @@ use Rattle.annex_c.specs.Codes.{Reading}
 use Rattle.format.specs.Formats.{walks, last_byte, times}
 use Rattle.format.proofs.FieldLaws.{fields_end}
 use Rattle.format.proofs.FormatLaws.{head_forward}
-use Rattle.segment.specs.declared.Judged.{Judged}
-use Rattle.segment.specs.declared.Judged.TheVariants.{Units, Refused}
 use Rattle.segment.specs.Bits.{all_bits}
 use Rattle.segment.specs.Text.{Text}
 use Rattle.segment.specs.Inner.{judged_text}
@@ -46,9 +43,9 @@ few_more m n (resulted us) h f = omega (arith, h, f)
 text_few : (x : Text) (m : ℕ) → Fits m x → Few m (units_or_refusal x)
 text_few x m f = by (judged_text 0 x) refl
   where
-    by : (j : Judged) → judged_text 0 x ≡ j → Few m (units_or_refusal x)
-    by (Units n) e = subst (Few m) (sym (text_units_lem 0 n x e)) (fits_count m x f)
-    by (Refused k) e = let q = judged_refusal m 0 k x f e in subst (Few m) (sym (text_refusal 0 k x e)) (omega (arith, q))
+    by : (j : Outcome ℕ) → judged_text 0 x ≡ j → Few m (units_or_refusal x)
+    by (resulted n) e = subst (Few m) (sym (text_units_lem 0 n x e)) (fits_count m x f)
+    by (refused k) e = let q = judged_refusal m 0 k x f e in subst (Few m) (sym (text_refusal 0 k x e)) (omega (arith, q))
 
 compressed_few : (read : ℕ → List ℕ → Reading) (s : List ℕ) → Few (8 * length s) (units_or_refusal (segment_text read s))
 unfolding segment_text
@@ -88,7 +85,7 @@ joined_few m n (refused k) y f g = f
 joined_few m n (resulted us) (refused k) f g = g
 joined_few m n (resulted us) (resulted vs) f g = omega (arith, length-append us vs, f, g)
 
-pub segment_end : (s : List ℕ) (end at b : ℕ) → walks segment s end at ≡ To b → (b ≡ at + 3 + byte_at s (at + 2)) × (b ≤ end)
+pub segment_end : (s : List ℕ) (end at b : ℕ) → walks segment s end at ≡ Ok b → (b ≡ at + 3 + byte_at s (at + 2)) × (b ≤ end)
 unfolding segment
 segment_end s end at b w =
     let h = then_inv _ _ b w in
@@ -102,8 +99,8 @@ next_few : (s : List ℕ) (end at m : ℕ) (w : Walk) → walks segment s end at
     → ((b : ℕ) → b ≤ end → Few (8 * (end - b)) (joined_units s end m b))
     → Few (8 * (end - at)) (after (standing w) (λ b. joined (segment_units s at) (joined_units s end m b)))
 unfolding after standing
-next_few s end at m (Bad x) e h rest = omega arith
-next_few s end at m (To b) e h rest =
+next_few s end at m (Err x) e h rest = omega arith
+next_few s end at m (Ok b) e h rest =
     let q = segment_end s end at b e in
     few_more (8 * (byte_at s (at + 2) + 3) + 8 * (end - b)) (8 * (end - at)) (joined (segment_units s at) (joined_units s end m b)) (omega (arith, q, h))
     (joined_few _ _ (segment_units s at) (joined_units s end m b) (segment_few s at) (rest b q.1))
@@ -114,7 +111,7 @@ all_few s end zero at h = omega arith
 all_few s end (suc m) at h = next_few s end at m (walks segment s end at) refl h (λ b l. all_few s end m b l)
 
 -- ---- a string
-strings_forward : (s : List ℕ) (end k at b : ℕ) → many (walks string s end) k at ≡ To b → at ≤ b
+strings_forward : (s : List ℕ) (end k at b : ℕ) → many (walks string s end) k at ≡ Ok b → at ≤ b
 unfolding many string
 strings_forward s end zero at b w = omega (arith, to_is at b w)
 strings_forward s end (suc k) at b w =
@@ -125,13 +122,13 @@ strings_forward s end (suc k) at b w =
 module _ (s : List ℕ) (end at k b : ℕ) where
   head_after : (c : ℕ) (w : Walk) → fields_to (24 ∷ 8 ∷ []) c end ≡ w → standing w ≡ resulted b → c ≤ b
   unfolding standing
-  head_after c (Bad x) e q = not_both 9 b q
-  head_after c (To d) e q = omega (arith, fields_end 24 (8 ∷ []) 4 refl c end d e, same_result d b q)
+  head_after c (Err x) e q = not_both 9 b q
+  head_after c (Ok d) e q = omega (arith, fields_end 24 (8 ∷ []) 4 refl c end d e, same_result d b q)
 
   walk_after : (w : Walk) → many (walks string s end) k (at + 1) ≡ w → standing (then w (λ c. fields_to (24 ∷ 8 ∷ []) c end)) ≡ resulted b → at ≤ b
   unfolding standing then
-  walk_after (Bad x) e q = not_both 9 b q
-  walk_after (To c) e q =
+  walk_after (Err x) e q = not_both 9 b q
+  walk_after (Ok c) e q =
       omega (arith, head_after c (fields_to (24 ∷ 8 ∷ []) c end) refl q, strings_forward s end k (at + 1) c e)
 
   -- a string that is found lies behind the field's beginning
@@ -144,8 +141,8 @@ module _ (s : List ℕ) (end at k : ℕ) where
   head_few : (c : ℕ) (w : Walk) → at ≤ c → fields_to (24 ∷ 8 ∷ []) c end ≡ w
       → Few (8 * (end - at)) (after (standing w) (λ b. joined_units s end (byte_at s (b - 1)) b))
   unfolding after standing
-  head_few c (Bad x) h e = omega arith
-  head_few c (To b) h e =
+  head_few c (Err x) h e = omega arith
+  head_few c (Ok b) h e =
       let f = fields_end 24 (8 ∷ []) 4 refl c end b e in
       few_more (8 * (end - b)) (8 * (end - at)) (joined_units s end (byte_at s (b - 1)) b) (omega (arith, f, h)) (all_few s end (byte_at s (b - 1)) b f.1)
 
@@ -153,8 +150,8 @@ module _ (s : List ℕ) (end at k : ℕ) where
   walk_few : (w : Walk) → many (walks string s end) k (at + 1) ≡ w
       → Few (8 * (end - at)) (after (standing (then w (λ b. fields_to (24 ∷ 8 ∷ []) b end))) (λ b. joined_units s end (byte_at s (b - 1)) b))
   unfolding after standing then
-  walk_few (Bad x) e = omega arith
-  walk_few (To c) e = head_few c (fields_to (24 ∷ 8 ∷ []) c end) (omega (arith, strings_forward s end k (at + 1) c e)) refl
+  walk_few (Err x) e = omega arith
+  walk_few (Ok c) e = head_few c (fields_to (24 ∷ 8 ∷ []) c end) (omega (arith, strings_forward s end k (at + 1) c e)) refl
 
   pub string_few : Few (8 * (end - at)) (string_units s end at k)
   unfolding string_units string_at after

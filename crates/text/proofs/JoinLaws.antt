@@ -1,28 +1,23 @@
 -- The segments of a string, one after another.
 use mathlib.Core.Path.{◌≡◌, refl, sym, ap, ◌∙◌}
 use mathlib.Core.List.{List, [], ◌∷◌, ◌++◌}
-use Prim.Native.Nat.{ℕ, zero, suc, ◌+◌, ◌-◌, ◌*◌, ◌<◌, ◌≤◌}
+use Prim.Native.Nat.{ℕ, zero, suc, ◌+◌, ◌*◌, ◌≤◌}
 use native.Mathlib.Nat.{add-zero}
-use native.Mathlib.Numerals.{sub-one}
 use native.Mathlib.Omega.{arith}
 use lib.ListN.{length, length-append}
 use lib.Seq.{sets, length-sets}
-use Rattle.bytes_at.specs.declared.Walk.{Walk}
-use Rattle.bytes_at.specs.declared.Walk.TheVariants.{To, Bad}
-use Rattle.bytes_at.specs.Walks.{then, many, standing}
+use Rattle.std.specs.Prelude.{Result, Ok, Err}
+use Rattle.bytes_at.specs.Walks.{then, many, standing, Walk}
 use Rattle.bytes_at.proofs.WalkLaws.{skipped, then_inv}
 use Rattle.refusal.specs.Numbers.{number_of}
-use Rattle.refusal.specs.Outcomes.{Outcome, refused, resulted, after}
+use Rattle.refusal.specs.Outcomes.{Outcome, refused, resulted, outcome, after}
 use Rattle.refusal.specs.declared.Refusal.{Refusal}
 use Rattle.refusal.proofs.OutcomeLaws.{same_result, not_both}
 use Rattle.row.proofs.RowLaws.{sets_append}
 use Rattle.format.specs.Formats.{walks}
 use Rattle.format.proofs.FieldLaws.{fields_end}
 use Rattle.strings.specs.Strings.{segment}
-use Rattle.text.specs.declared.answer.Number.{Number}
-use Rattle.text.specs.declared.answer.Number.TheVariants.{Value, Refused}
-use Rattle.text.specs.declared.answer.Units.{Units}
-use Rattle.text.specs.declared.answer.Units.TheVariants as amounts
+use Rattle.text.specs.declared.answer.Amount.{Amount}
 use Rattle.text.specs.Answers.{amount_of}
 use Rattle.text.specs.Strings.{segment_units, joined_units}
 use Rattle.text.specs.Values.{joined}
@@ -37,10 +32,10 @@ unfolding many then
 many_once p at = by (p at)
   where
     by : (w : Walk) → then w (many p 0) ≡ w
-    by (To b) = refl
-    by (Bad x) = refl
+    by (Ok b) = refl
+    by (Err x) = refl
 
-pub segment_ends : (s : List ℕ) (end at b : ℕ) → walks segment s end at ≡ To b → at + 3 ≤ b
+pub segment_ends : (s : List ℕ) (end at b : ℕ) → walks segment s end at ≡ Ok b → at + 3 ≤ b
 unfolding segment
 segment_ends s end at b e =
     let h = then_inv _ _ b e in
@@ -71,84 +66,79 @@ pub joined_refused : (x y : Outcome (List ℕ)) (q : ℕ) → x ≡ refused q �
 unfolding joined after
 joined_refused x y q e = rw e
 
--- ---- one segment more
-module _ (told : ℕ → Outcome (List ℕ)) (s : List ℕ) (end : ℕ) where
-  of_step : (left at : ℕ) → 0 < left
-      → joined_of told s end left at ≡ after (standing (walks segment s end at)) (λ b. joined (told at) (joined_of told s end (left - 1) b))
+-- ---- one segment more, where one fewer are then left
+module _ (told : ℕ → Outcome (List ℕ)) (s : List ℕ) (end left next at : ℕ) (h : left ≡ suc next) where
+  of_step : joined_of told s end left at ≡ after (standing (walks segment s end at)) (λ b. joined (told at) (joined_of told s end next b))
   unfolding joined_of
-  of_step zero at h = absurd (omega arith)
-  of_step (suc m) at h = rw sub-one
+  of_step = rw h
 
-  module _ (left at : ℕ) where
-    pub of_none : left ≡ 0 → joined_of told s end left at ≡ resulted []
-    unfolding joined_of
-    of_none e = rw e
+  pub of_bad : (k : ℕ) → standing (walks segment s end at) ≡ refused k → joined_of told s end left at ≡ refused k
+  unfolding after
+  of_bad k e = of_step ∙ rw e
 
-    pub of_bad : (x : ℕ) → 0 < left → walks segment s end at ≡ Bad x → joined_of told s end left at ≡ refused 9
-    unfolding standing after
-    of_bad x h e = of_step left at h ∙ rw e
+  pub of_on : (b : ℕ) → standing (walks segment s end at) ≡ resulted b → joined_of told s end left at ≡ joined (told at) (joined_of told s end next b)
+  unfolding after
+  of_on b e = of_step ∙ rw e
 
-    pub of_on : (b : ℕ) → 0 < left → walks segment s end at ≡ To b → joined_of told s end left at ≡ joined (told at) (joined_of told s end (left - 1) b)
-    unfolding standing after
-    of_on b h e = of_step left at h ∙ rw e
+pub of_none : (told : ℕ → Outcome (List ℕ)) (s : List ℕ) (end left at : ℕ) → left ≡ 0 → joined_of told s end left at ≡ resulted []
+unfolding joined_of
+of_none told s end left at e = rw e
 
 of_units : (s : List ℕ) (end m at : ℕ) → joined_of (segment_units s) s end m at ≡ joined_units s end m at
 unfolding joined_of joined_units
 of_units s end zero at = refl
 of_units s end (suc m) at = λ i. after (standing (walks segment s end at)) (λ b. joined (segment_units s at) (of_units s end m b i))
 
-module _ (s : List ℕ) (end left at : ℕ) where
-  pub units_none : left ≡ 0 → joined_units s end left at ≡ resulted []
-  units_none e = sym (of_units s end left at) ∙ of_none (segment_units s) s end left at e
+pub units_none : (s : List ℕ) (end left at : ℕ) → left ≡ 0 → joined_units s end left at ≡ resulted []
+units_none s end left at e = sym (of_units s end left at) ∙ of_none (segment_units s) s end left at e
 
-  pub units_bad : (x : ℕ) → 0 < left → walks segment s end at ≡ Bad x → joined_units s end left at ≡ refused 9
-  units_bad x h e = sym (of_units s end left at) ∙ of_bad (segment_units s) s end left at x h e
+module _ (s : List ℕ) (end left next at : ℕ) (h : left ≡ suc next) where
+  pub units_bad : (k : ℕ) → standing (walks segment s end at) ≡ refused k → joined_units s end left at ≡ refused k
+  units_bad k e = sym (of_units s end left at) ∙ of_bad (segment_units s) s end left next at h k e
 
-  pub units_on : (b : ℕ) → 0 < left → walks segment s end at ≡ To b
-      → joined_units s end left at ≡ joined (segment_units s at) (joined_units s end (left - 1) b)
-  units_on b h e =
-      sym (of_units s end left at) ∙ of_on (segment_units s) s end left at b h e ∙ ap (joined (segment_units s at)) (of_units s end (left - 1) b)
+  pub units_on : (b : ℕ) → standing (walks segment s end at) ≡ resulted b
+      → joined_units s end left at ≡ joined (segment_units s at) (joined_units s end next b)
+  units_on b e =
+      sym (of_units s end left at) ∙ of_on (segment_units s) s end left next at h b e ∙ ap (joined (segment_units s at)) (of_units s end next b)
 
--- ---- where no segment is compressed the plain bytes are all
-pub all_plain : (s : List ℕ) (end left at b : ℕ) → 0 < left → walks segment s end at ≡ To b → plain_units s at ≡ segment_units s at
-    → joined_plain s end (left - 1) b ≡ joined_units s end (left - 1) b → joined_plain s end left at ≡ joined_units s end left at
-all_plain s end left at b h w e f = of_on (plain_units s) s end left at b h w ∙ (λ i. joined (e i) (f i)) ∙ sym (units_on s end left at b h w)
+  -- where no segment is compressed the plain bytes are all
+  pub all_plain : (b : ℕ) → standing (walks segment s end at) ≡ resulted b → plain_units s at ≡ segment_units s at
+      → joined_plain s end next b ≡ joined_units s end next b → joined_plain s end left at ≡ joined_units s end left at
+  all_plain b w e f = of_on (plain_units s) s end left next at h b w ∙ (λ i. joined (e i) (f i)) ∙ sym (units_on b w)
 
-pub plain_wrote : {x y : Outcome (List ℕ)} {p : ℕ} {l : List ℕ} {r : Units} {e : List ℕ} → x ≡ y → WroteAll x p l r e → WroteAll y p l r e
+pub plain_wrote : {x y : Outcome (List ℕ)} {p : ℕ} {l : List ℕ} {r : Result Amount Refusal} {e : List ℕ} → x ≡ y → WroteAll x p l r e → WroteAll y p l r e
 plain_wrote q w = rw q at w
 
--- ---- the loop: of the units x, with the output l₀ at first, the units y are left, with n units stored in l
-pub record Going (x : Outcome (List ℕ)) (l₀ : List ℕ) (m : ℕ) (y : Outcome (List ℕ)) (l : List ℕ) (left n : ℕ) : Type 0 where
-  pub down : left ≤ m
-  pub few : n ≤ 2040 * (m - left)
+-- ---- the loop: of the units x, with the output l₀ at first, the units y are left after i segments, with n units stored in l
+pub record Going (x : Outcome (List ℕ)) (l₀ : List ℕ) (y : Outcome (List ℕ)) (l : List ℕ) (i n : ℕ) : Type 0 where
+  pub few : n ≤ 2040 * i
   pub answers : counted_from n y ≡ counted x
   pub stores : (us : List ℕ) → x ≡ resulted us → (vs : List ℕ) × ((y ≡ resulted vs) × (sets l n vs ≡ sets l₀ 0 us))
   pub long : length l ≡ length l₀
 
-pub going_first : (x : Outcome (List ℕ)) (l : List ℕ) (m : ℕ) → Going x l m x l m 0
-going_first x l m = record {
-  down = omega arith;
+pub going_first : (x y : Outcome (List ℕ)) (l : List ℕ) → y ≡ x → Going x l y l 0 0
+going_first x y l q = record {
   few = omega arith;
-  answers = counted_first x;
-  stores = λ us e. (us, (e, refl));
+  answers = ap (counted_from 0) q ∙ counted_first x;
+  stores = λ us e. (us, (q ∙ e, refl));
   long = refl;
 }
 
-pub wrote_few : {z : Outcome (List ℕ)} {l : List ℕ} {n : ℕ} {u : Number} {e : List ℕ} (k : ℕ) → Wrote z l n u e → u ≡ Value k → k ≤ 2040
+pub wrote_few : {z : Outcome (List ℕ)} {l : List ℕ} {n : ℕ} {u : Result ℕ Refusal} {e : List ℕ} (k : ℕ) → Wrote z l n u e → u ≡ Ok k → k ≤ 2040
 wrote_few {z} {l} {n} {u} {e} k w q =
-    let v : Wrote z l n (Value k) e = rw q at w in
+    let v : Wrote z l n (Ok k) e = rw q at w in
     let f = from_number z k v.answers in
     omega (arith, v.few f.0 f.1.0, f.1.1)
 
-module _ {x : Outcome (List ℕ)} {l₀ : List ℕ} {m : ℕ} {y : Outcome (List ℕ)} {l : List ℕ} {left n : ℕ} (g : Going x l₀ m y l left n) where
-  pub going_refused : (p : ℕ) (r : Refusal) (e : List ℕ) → y ≡ refused (number_of r) → WroteAll x p l₀ (amounts.Refused r) e
+module _ {x : Outcome (List ℕ)} {l₀ : List ℕ} {y : Outcome (List ℕ)} {l : List ℕ} {i n : ℕ} (g : Going x l₀ y l i n) where
+  pub going_refused : (p : ℕ) {v : Result Amount Refusal} {r : Refusal} (e : List ℕ) → v ≡ Err r → y ≡ refused (number_of r) → WroteAll x p l₀ v e
   unfolding counted_from after
-  going_refused p r e q = record {
-    answers = sym (ap (amount_of p) (from_refusal x (number_of r) (rw q at g.answers)) ∙ amount_refused p (number_of r));
+  going_refused p {v} {r} e h q = record {
+    answers = ap outcome h ∙ sym (ap (amount_of p) (from_refusal x (number_of r) (rw q at g.answers)) ∙ amount_refused p (number_of r));
     stores = λ us u. not_both (number_of r) (g.stores us u).0 (sym q ∙ (g.stores us u).1.0);
   }
 
-  pub going_done : (p : ℕ) → p ≡ 0 → y ≡ resulted [] → WroteAll x p l₀ (amounts.Are (record { units = n; replaced = 0 })) l
+  pub going_done : (p : ℕ) → p ≡ 0 → y ≡ resulted [] → WroteAll x p l₀ (Ok (record { units = n; replaced = 0 })) l
   unfolding counted_from after
   going_done p none q = record {
     answers = amount_counted p x n none (ap resulted (sym (add-zero n)) ∙ (rw q at g.answers));
@@ -159,19 +149,18 @@ module _ {x : Outcome (List ℕ)} {l₀ : List ℕ} {m : ℕ} {y : Outcome (List
   }
 
   module _ (z y' : Outcome (List ℕ)) (l' : List ℕ) (j : y ≡ joined z y') where
-    pub going_stop : (p : ℕ) (u : Number) (r : Refusal) → Wrote z l n u l' → u ≡ Refused r → WroteAll x p l₀ (amounts.Refused r) l'
-    going_stop p u r w q =
+    pub going_stop : (p : ℕ) {v : Result Amount Refusal} (u : Result ℕ Refusal) {r : Refusal} → v ≡ Err r → Wrote z l n u l' → u ≡ Err r → WroteAll x p l₀ v l'
+    going_stop p u {r} h w q =
         let e : z ≡ refused (number_of r) = from_refusal z (number_of r) (rw q at w.answers) in
-        going_refused p r l' (j ∙ joined_refused z y' (number_of r) e)
+        going_refused p l' h (j ∙ joined_refused z y' (number_of r) e)
 
-    pub going_next : (us : List ℕ) (k : ℕ) → 0 < left → z ≡ resulted us → k ≡ length us → length us ≤ 2040 → l' ≡ sets l n us
-        → Going x l₀ m y' l' (left - 1) (n + k)
-    going_next us k h a q b e =
+    pub going_next : (us : List ℕ) (k : ℕ) → z ≡ resulted us → k ≡ length us → length us ≤ 2040 → l' ≡ sets l n us
+        → Going x l₀ y' l' (i + 1) (n + k)
+    going_next us k a q b e =
         let d : y ≡ joined (resulted us) y' = rw a at j in
         record {
-          down = omega (arith, g.down);
-          few = omega (arith, g.down, g.few);
-          answers = ap (λ (i : ℕ). counted_from (n + i) y') q ∙ sym (ap (counted_from n) d ∙ counted_on n us y') ∙ g.answers;
+          few = omega (arith, g.few);
+          answers = ap (λ (j : ℕ). counted_from (n + j) y') q ∙ sym (ap (counted_from n) d ∙ counted_on n us y') ∙ g.answers;
           stores = λ vs t.
               let o = g.stores vs t in
               let w = joined_inv us o.0 y' (sym d ∙ o.1.0) in
@@ -179,9 +168,9 @@ module _ {x : Outcome (List ℕ)} {l₀ : List ℕ} {m : ℕ} {y : Outcome (List
           long = ap length e ∙ length-sets l n us ∙ g.long;
         }
 
-    pub going_on : (k : ℕ) (u : Number) → 0 < left → Wrote z l n u l' → u ≡ Value k → Going x l₀ m y' l' (left - 1) (n + k)
+    pub going_on : (k : ℕ) (u : Result ℕ Refusal) → Wrote z l n u l' → u ≡ Ok k → Going x l₀ y' l' (i + 1) (n + k)
     unfolding stored_units
-    going_on k u h w q =
-        let v : Wrote z l n (Value k) l' = rw q at w in
+    going_on k u w q =
+        let v : Wrote z l n (Ok k) l' = rw q at w in
         let f = from_number z k v.answers in
-        going_next f.0 k h f.1.0 f.1.1 (v.few f.0 f.1.0) (rw f.1.0 at v.stores)
+        going_next f.0 k f.1.0 f.1.1 (v.few f.0 f.1.0) (rw f.1.0 at v.stores)

@@ -7,5 +7,5 @@ pub mod FewLaws
 pub mod ThereLaws
 pub mod ValueLaws
 pub mod Examples
-pub mod OnceLaws
+pub mod KeepLaws
 pub mod PassLaws

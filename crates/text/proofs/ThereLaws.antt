@@ -35,7 +35,7 @@ module _ (s : List ℕ) (z : Bytes s) where
   byte_field a i j e = all_at s a i j e 8 (byte_bits_lem s i (z i))
 
   segment_there : (a : ℕ) (g : SegmentFields)
-      → unfold segment in (segment.Ok (record {}) g → Lies (segment.enc g) s a
+      → unfold segment in (segment.Formed (record {}) g → Lies (segment.enc g) s a
       → (segment_units s a ≡ segment_for g) × (segment_replaced s a ≡ replaced_by (way_of g.compression g.mode)))
   unfolding segment segment_replaced
   segment_there a g o l =
@@ -49,7 +49,7 @@ module _ (s : List ℕ) (z : Bytes s) where
       )
 
   pub segments_there : (end a : ℕ) (gs : List SegmentFields)
-      → unfold segment in (All (segment.Ok (record {})) gs → Lies (encs segment.enc gs) s a → a + length (encs segment.enc gs) ≤ end
+      → unfold segment in (All (segment.Formed (record {})) gs → Lies (encs segment.enc gs) s a → a + length (encs segment.enc gs) ≤ end
       → (joined_units s end (length gs) a ≡ segments_for gs) × (joined_replaced s end (length gs) a ≡ replaced_for gs))
   unfolding segment joined_units segments_for joined_replaced replaced_for
   segments_there end a [] o l h = (refl, refl)
@@ -66,7 +66,7 @@ module _ (s : List ℕ) (z : Bytes s) where
 
   -- the head of a string, and that its segments lie behind it
   pub string_there : (b : ℕ) (x : StringFields)
-      → unfold segment string in (string.Ok (record {}) x → Lies (string.enc x) s b
+      → unfold segment string in (string.Formed (record {}) x → Lies (string.enc x) s b
       → (heading_before s (b + 4) ≡ heading_for x) × Lies (encs segment.enc x.segments) s (b + 4))
   unfolding segment string
   string_there b x o l =
@@ -88,12 +88,12 @@ string_long x =
 abbrev pub Agrees : {A : Type 0} → List ℕ → ℕ → (ℕ → Outcome A) → (StringFields → Outcome A) → Type 0
 unfolding string
 Agrees s end asked told =
-    (b : ℕ) (x : StringFields) → string.Ok (record {}) x → Lies (string.enc x) s b → b + length (string.enc x) ≤ end → asked (b + 4) ≡ told x
+    (b : ℕ) (x : StringFields) → string.Formed (record {}) x → Lies (string.enc x) s b → b + length (string.enc x) ≤ end → asked (b + 4) ≡ told x
 
 -- ---- string k of those that lie one after the other; 13 where there is none
 module _ {A : Type 0} (s : List ℕ) (end : ℕ) (asked : ℕ → Outcome A) (told : StringFields → Outcome A) (agrees : Agrees s end asked told) where
   pub there_told : (a : ℕ) (xs : List StringFields) (k : ℕ)
-      → unfold string in (All (string.Ok (record {})) xs → Lies (encs string.enc xs) s a → a + length (encs string.enc xs) ≤ end → k < length xs
+      → unfold string in (All (string.Formed (record {})) xs → Lies (encs string.enc xs) s a → a + length (encs string.enc xs) ≤ end → k < length xs
       → after (standing (then (many (walks string s end) k a) (λ b. fields_to (24 ∷ 8 ∷ []) b end))) asked ≡ of_string told xs k)
   unfolding segment string many then of_string
   there_told a [] k o l h i = absurd (omega arith)

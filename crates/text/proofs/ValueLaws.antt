@@ -1,15 +1,15 @@
 -- What is answered of a text is given by the strings and segments of its value: where it lies in a section, and as a field alone.
 use Prim.Native.Nat.{ℕ, ◌+◌, ◌-◌, ◌≤◌, ◌<◌}
 use mathlib.Core.Path.{◌≡◌, refl, sym, ap, ◌∙◌}
+use Rattle.bytes_at.proofs.WalkLaws.{standing_to, standing_bad}
 use mathlib.Core.Logic.{⊎_elim}
 use mathlib.Core.List.{List}
-use mathlib.Core.Option.{none, some}
 use native.Mathlib.Nat.{eq-zero-or-pos}
 use native.Mathlib.Omega.{arith}
 use lib.ListN.{length, length-append}
 use lib.Seq.{take-length}
-use Rattle.bytes_at.specs.declared.Walk.{Walk}
-use Rattle.bytes_at.specs.declared.Walk.TheVariants.{To, Bad}
+use Rattle.bytes_at.specs.Walks.{Walk}
+use Rattle.std.specs.Prelude.{Ok, Err, None, Some}
 use Rattle.logic.proofs.ChoiceLaws.{eq_yes, eq_no}
 use Rattle.refusal.specs.Outcomes.{Outcome, refused, resulted, after}
 use Rattle.refusal.proofs.OutcomeLaws.{after_refused}
@@ -32,20 +32,20 @@ use Rattle.text.proofs.ThereLaws.{segments_there, string_there, string_long, Agr
 
 -- ---- a text that lies from `at` to the end of its container
 -- the count is that of its strings; they lie behind it, if there are any
-strings_there : (s : List ℕ) → Bytes s → (end at : ℕ) (t : text.Val) → text.Ok (record {}) t → Lies (text.enc t) s at
+strings_there : (s : List ℕ) → Bytes s → (end at : ℕ) (t : text.Val) → text.Formed (record {}) t → Lies (text.enc t) s at
     → end ≡ at + length (text.enc t)
-    → unfold string in ((string_count s end at ≡ length (strings_of t)) × (All (string.Ok (record {})) (strings_of t)
+    → unfold string in ((string_count s end at ≡ length (strings_of t)) × (All (string.Formed (record {})) (strings_of t)
     × (Lies (encs string.enc (strings_of t)) s (at + 1)
     × (0 < length (strings_of t) → at + 1 + length (encs string.enc (strings_of t)) ≤ end))))
 unfolding string_count text structure string strings_of
-strings_there s z end at none o l e = (sym (eq_yes at end 0 _ (omega arith) refl), (record {}, (refl, λ h. absurd (omega arith))))
-strings_there s z end at (some ss) o l e =
+strings_there s z end at None o l e = (sym (eq_yes at end 0 _ (omega arith) refl), (record {}, (refl, λ h. absurd (omega arith))))
+strings_there s z end at (Some ss) o l e =
     let c = counted8_there s z at string ss o l in
     let n = length-append (bytes_of 1 (0 + length ss)) (encs string.enc ss) in
     let k = bytes_length 1 (0 + length ss) in
     (sym (eq_no at end 0 _ (λ i. omega arith) (sym c.0)), (o.1.1.1, (c.1, λ h. omega arith)))
 
-module _ (s : List ℕ) (z : Bytes s) (end at : ℕ) (t : text.Val) (o : text.Ok (record {}) t) (l : Lies (text.enc t) s at)
+module _ (s : List ℕ) (z : Bytes s) (end at : ℕ) (t : text.Val) (o : text.Formed (record {}) t) (l : Lies (text.enc t) s at)
     (e : end ≡ at + length (text.enc t)) where
   pub count_told_lem : string_count s end at ≡ length (strings_of t)
   unfolding string
@@ -91,7 +91,7 @@ module _ (s : List ℕ) (z : Bytes s) (end at : ℕ) (t : text.Val) (o : text.Ok
       k)
 
 -- ---- a field alone
-module _ (t : text.Val) (o : text.Ok (record {}) t) where
+module _ (t : text.Val) (o : text.Formed (record {}) t) where
   text_bytes : Bytes (text.enc t)
   text_bytes = (text.law laws (record {})).bytes t o
 
@@ -109,7 +109,7 @@ module _ (t : text.Val) (o : text.Ok (record {}) t) where
 
   -- it is not refused by 9
   not_nine : {A : Type 0} (x : Outcome A) → of_field (text.enc t) x ≡ x
-  not_nine x = field_sound (text.enc t) x _ ((text.law laws (record {})).sound (text.enc t) _ 0 t o (take-length (text.enc t)) (omega arith))
+  not_nine x = field_sound (text.enc t) x _ (sym (standing_to _ _ ((text.law laws (record {})).sound (text.enc t) _ 0 t o (take-length (text.enc t)) (omega arith))))
 
   pub field_count_lem : field_count (text.enc t) ≡ resulted (length (strings_of t))
   unfolding field_count
@@ -124,10 +124,10 @@ module _ (t : text.Val) (o : text.Ok (record {}) t) where
   field_units_lem k = not_nine _ ∙ units_is k
 
 -- bytes that are no text are refused by 9, whatever is asked
-pub field_nine : (f : List ℕ) → Bytes f → ((t : text.Val) → text.Ok (record {}) t → f ≡ text.enc t → ⊥)
+pub field_nine : (f : List ℕ) → Bytes f → ((t : text.Val) → text.Formed (record {}) t → f ≡ text.enc t → ⊥)
     → {A : Type 0} (x : Outcome A) → of_field f x ≡ refused 9
 field_nine f z none_is x = by (walks_all text f (length f) 0) refl
   where
     by : (w : Walk) → walks_all text f (length f) 0 ≡ w → of_field f x ≡ refused 9
-    by (To e) w = let u = (own_bytes text (record {}) f z).0 (e, w) in absurd (none_is u.0 u.1.0 u.1.1)
-    by (Bad y) w = field_bad f x y w
+    by (Ok e) w = let u = (own_bytes text (record {}) f z).0 (e, w) in absurd (none_is u.0 u.1.0 u.1.1)
+    by (Err y) w = field_bad f x 9 (sym (standing_bad _ y w))

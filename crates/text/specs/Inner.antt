@@ -1,17 +1,15 @@
 -- What the private functions promise.
-use Rattle.std.specs.Prelude.{◌≡◌, ℕ, zero, suc, ◌+◌, ◌≤◌, Bool, true, false, List, [], length, take, drop}
+use Rattle.std.specs.Prelude.{◌≡◌, ℕ, zero, suc, ◌+◌, ◌≤◌, Bool, true, false, List, [], length, take, drop, Result, Ok}
 use Rattle.std.proofs.lemmas.List.Edits.{sets}
 use Rattle.bytes_at.specs.Fields.{byte_at}
 use Rattle.format.specs.Formats.{walks}
 use Rattle.strings.specs.Strings.{segment}
-use Rattle.refusal.specs.Outcomes.{Outcome, refused, resulted, after}
+use Rattle.refusal.specs.declared.Refusal.{Refusal}
+use Rattle.refusal.specs.Outcomes.{Outcome, refused, resulted, outcome, after}
 use Rattle.text.specs.declared.answer.Amount.{Amount}
-use Rattle.text.specs.declared.answer.Units.{Units}
-use Rattle.text.specs.declared.answer.Units.TheVariants.{Are}
-use Rattle.text.specs.declared.answer.Number.{Number}
 use Rattle.text.specs.declared.segments.Way.{Way}
 use Rattle.text.specs.declared.segments.Way.TheVariants.{Plain, Utf16, Titles, Descriptions, Unread}
-use Rattle.text.specs.Answers.{units_outcome, number_outcome, amount_of}
+use Rattle.text.specs.Answers.{amount_of}
 use Rattle.text.specs.Segments.{way_of, pairs, units_by}
 use Rattle.bytes_at.specs.Walks.{standing}
 use Rattle.text.specs.Values.{joined}
@@ -51,25 +49,25 @@ stored_units l n (resulted us) = sets l n us
 
 -- a segment of the units x was read: the answer is r, and the output is then e. A segment has at most 255 bytes, and a unit takes
 -- a bit or more
-pub record Wrote (x : Outcome (List ℕ)) (l : List ℕ) (n : ℕ) (r : Number) (e : List ℕ) : Type 0 where
-  pub answers : number_outcome r ≡ counted x
+pub record Wrote (x : Outcome (List ℕ)) (l : List ℕ) (n : ℕ) (r : Result ℕ Refusal) (e : List ℕ) : Type 0 where
+  pub answers : outcome r ≡ counted x
   pub stores : e ≡ stored_units l n x
   pub few : (us : List ℕ) → x ≡ resulted us → length us ≤ 2040
 
 -- the same of joined segments, p of which were replaced; where one is refused, those before it may be stored
-pub record WroteAll (x : Outcome (List ℕ)) (p : ℕ) (l : List ℕ) (r : Units) (e : List ℕ) : Type 0 where
-  pub answers : units_outcome r ≡ amount_of p x
+pub record WroteAll (x : Outcome (List ℕ)) (p : ℕ) (l : List ℕ) (r : Result Amount Refusal) (e : List ℕ) : Type 0 where
+  pub answers : outcome r ≡ amount_of p x
   pub stores : (us : List ℕ) → x ≡ resulted us → e ≡ sets l 0 us
 
 -- a segment of the units x was read once, into an array with room for it: the answer is r, and the array is then e. What a refused
 -- one leaves there is of no use
-pub record Once (x : Outcome (List ℕ)) (l : List ℕ) (n : ℕ) (r : Number) (e : List ℕ) : Type 0 where
-  pub answers : number_outcome r ≡ counted x
+pub record Once (x : Outcome (List ℕ)) (l : List ℕ) (n : ℕ) (r : Result ℕ Refusal) (e : List ℕ) : Type 0 where
+  pub answers : outcome r ≡ counted x
   pub stores : (us : List ℕ) → x ≡ resulted us → e ≡ sets l n us
   pub long : length e ≡ length l
 
 -- the same of joined segments
-pub record OnceAll (x : Outcome (List ℕ)) (p : ℕ) (l : List ℕ) (r : Units) (e : List ℕ) : Type 0 where
+pub record OnceAll (x : Outcome (List ℕ)) (p : ℕ) (l : List ℕ) (r : Result Amount Refusal) (e : List ℕ) : Type 0 where
   pub wrote : WroteAll x p l r e
   pub long : length e ≡ length l
-  pub few : (a : Amount) → r ≡ Are a → a.units ≤ 2040
+  pub few : (a : Amount) → r ≡ Ok a → a.units ≤ 2040

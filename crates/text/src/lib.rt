@@ -7,5 +7,5 @@ pub mod inner;
 mod once;
 mod segments;
 
-pub use answer::{Amount, Count, Headed, Heading, Units};
+pub use answer::{Amount, Heading};
 pub use field::{count_strings, string_heading, string_text, string_units};

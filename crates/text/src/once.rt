@@ -1,7 +1,7 @@
 // The segments of a string, read into an array. It has room for each of them, since a segment has at most 255 bytes and a unit takes a
 // bit or more, and for a whole text of at most 255 bytes, which is read in one pass. What a refused text leaves in the array is of no
 // use, so it is never an output.
-ghost use Rattle.std.specs.Prelude.{◌≡◌, ◌+◌, ◌*◌, ◌^◌, ◌<◌, ◌≤◌, length};
+ghost use Rattle.std.specs.Prelude.{◌+◌, ◌*◌, ◌^◌, ◌<◌, ◌≤◌, length};
 ghost use Rattle.annex_c.specs.Tree.{walked};
 ghost use Rattle.trees.specs.Which.{table_of};
 ghost use Rattle.bytes_at.specs.Fields.{byte_at};
@@ -10,28 +10,28 @@ ghost use Rattle.text.specs.Segments.{units_or_refusal, units_by};
 ghost use Rattle.text.specs.Strings.{segment_units, joined_units, joined_replaced};
 ghost use Rattle.text.specs.Inner.{Wrote, WroteAll, Once, OnceAll};
 
-use crate::answer::{Amount, Number, Units};
-use crate::segments::{Way, bytes, utf16, way_of};
-use bytes_at::{Walk, byte};
+use crate::answer::Amount;
+use crate::segments::{Way, bytes, past_segment, utf16, way_of};
+use bytes_at::byte;
 use part::part_of;
 use refusal::Refusal;
 use segment::inner::copy;
 
 // A compressed segment.
-fn compressed_once(titles: bool, s: &[u8], o: &mut [u16; 2040], n: usize) -> Number
+fn compressed_once(titles: bool, s: &[u8], o: &mut [u16; 2040], n: usize) -> Result<usize, Refusal>
     requires { (length s.now ≤ 255) × (n + 8 * length s.now ≤ 2040) }
     ensures { Once (units_or_refusal (segment_text (walked (table_of titles)) s.now)) o.old n result o.new }
 {
     let r = segment::read(titles, s, o, n);
     if r < 4096 {
-        let k = r - n;
-        return Number::Value(k);
+        Ok(r - n)
+    } else {
+        Err(Refusal::BrokenText)
     }
-    Number::Refused(Refusal::BrokenText)
 }
 
 // One segment: its units from place n on, and how many they are.
-fn one_once(way: Way, s: &[u8], o: &mut [u16; 2040], n: usize) -> Number
+fn one_once(way: Way, s: &[u8], o: &mut [u16; 2040], n: usize) -> Result<usize, Refusal>
     requires { (length s.now ≤ 255) × (n + 8 * length s.now ≤ 2040) }
     ensures { Once (units_by way s.now) o.old n result o.new }
 {
@@ -40,12 +40,12 @@ fn one_once(way: Way, s: &[u8], o: &mut [u16; 2040], n: usize) -> Number
         Way::Utf16 => utf16(s, o, n),
         Way::Titles => compressed_once(true, s, o, n),
         Way::Descriptions => compressed_once(false, s, o, n),
-        Way::Unread => Number::Refused(Refusal::NotAReadPair),
+        Way::Unread => Err(Refusal::NotAReadPair),
     }
 }
 
 // The segment whose head begins at `at`; there is room for its units, and for one at least.
-fn segment_once(s: &[u8], at: usize, o: &mut [u16; 2040], n: usize) -> Number
+fn segment_once(s: &[u8], at: usize, o: &mut [u16; 2040], n: usize) -> Result<usize, Refusal>
     requires { (at + 3 < 2 ^ 64) × (n < 2040) × (n + 8 * byte_at s.now (at + 2) ≤ 2040) }
     ensures { Once (segment_units s.now at) o.old n result o.new }
 {
@@ -55,45 +55,44 @@ fn segment_once(s: &[u8], at: usize, o: &mut [u16; 2040], n: usize) -> Number
 }
 
 // m segments from a place on, joined, from the array's start on.
-pub fn segments_once(s: &[u8], end: usize, m: usize, from: usize, o: &mut [u16; 2040]) -> Units
+pub fn segments_once(
+    s: &[u8],
+    end: usize,
+    m: usize,
+    from: usize,
+    o: &mut [u16; 2040],
+) -> Result<Amount, Refusal>
     requires { (m < 256) × (end ≤ from + 255) }
     ensures { OnceAll (joined_units s.now end m from) (joined_replaced s.now end m from) o.old result o.new }
 {
     let mut at = from;
-    let mut left = m;
     let mut n = 0;
-    while 0 < left {
-        let w = strings::segments(s, end, 1, at);
-        let Walk::To(b) = w else {
-            return Units::Refused(Refusal::Body);
-        };
-        match segment_once(s, at, o, n) {
-            Number::Refused(r) => return Units::Refused(r),
-            Number::Value(k) => {
-                at = b;
-                n += k;
-                left -= 1;
-            }
-        }
+    for _ in 0..m {
+        let b = past_segment(s, end, at)?;
+        let k = segment_once(s, at, o, n)?;
+        at = b;
+        n += k;
     }
-    Units::Are(Amount {
+    Ok(Amount {
         units: n,
         replaced: 0,
     })
 }
 
 // The segment whose head begins at `at`, through the array: its units from place n of the output on, and how many they are.
-fn segment_through(s: &[u8], at: usize, o: &mut [u16; 2040], out: &mut [u16], n: usize) -> Number
-    requires { (at + 3 < 2 ^ 64) × (length o.old ≡ 2040) }
-    ensures writes { Wrote (segment_units s.now at) out.old n result out.new }
-    ensures keeps { length o.new ≡ 2040 }
+fn segment_through(
+    s: &[u8],
+    at: usize,
+    o: &mut [u16; 2040],
+    out: &mut [u16],
+    n: usize,
+) -> Result<usize, Refusal>
+    requires { at + 3 < 2 ^ 64 }
+    ensures { Wrote (segment_units s.now at) out.old n result out.new }
 {
-    let r = segment_once(s, at, o, 0);
-    let Number::Value(k) = r else {
-        return r;
-    };
+    let k = segment_once(s, at, o, 0)?;
     copy(o, k, out, n);
-    r
+    Ok(k)
 }
 
 // m segments from a place on, joined, from the output's start on.
@@ -104,29 +103,19 @@ pub fn all_segments(
     from: usize,
     o: &mut [u16; 2040],
     out: &mut [u16],
-) -> Units
-    requires { (m < 256) × (length o.old ≡ 2040) }
-    ensures writes { WroteAll (joined_units s.now end m from) (joined_replaced s.now end m from) out.old result out.new }
-    ensures keeps { length o.new ≡ 2040 }
+) -> Result<Amount, Refusal>
+    requires { m < 256 }
+    ensures { WroteAll (joined_units s.now end m from) (joined_replaced s.now end m from) out.old result out.new }
 {
     let mut at = from;
-    let mut left = m;
     let mut n = 0;
-    while 0 < left {
-        let w = strings::segments(s, end, 1, at);
-        let Walk::To(b) = w else {
-            return Units::Refused(Refusal::Body);
-        };
-        match segment_through(s, at, o, out, n) {
-            Number::Refused(r) => return Units::Refused(r),
-            Number::Value(k) => {
-                at = b;
-                n += k;
-                left -= 1;
-            }
-        }
+    for _ in 0..m {
+        let b = past_segment(s, end, at)?;
+        let k = segment_through(s, at, o, out, n)?;
+        at = b;
+        n += k;
     }
-    Units::Are(Amount {
+    Ok(Amount {
         units: n,
         replaced: 0,
     })

@@ -2,12 +2,15 @@
 // output of nothing, and reads no byte but those of the heads.
 ghost use Rattle.std.specs.Prelude.{◌≡◌, false, List, ℕ, ◌+◌, ◌*◌, ◌^◌, ◌<◌, ◌≤◌, length, get_or, take};
 ghost use Rattle.std.proofs.lemmas.List.Edits.{sets};
-ghost use Rattle.refusal.specs.Outcomes.{resulted};
+ghost use Rattle.bytes_at.specs.Walks.{standing};
+ghost use Rattle.format.specs.Formats.{walks};
+ghost use Rattle.refusal.specs.Outcomes.{resulted, outcome};
+ghost use Rattle.strings.specs.Strings.{segment};
 ghost use Rattle.text.specs.Segments.{way_of, utf16_units, units_by};
 ghost use Rattle.text.specs.Strings.{segment_units, joined_units, joined_replaced};
 ghost use Rattle.text.specs.Inner.{plain_pairs, plain_by, plain_units, joined_plain, Wrote, WroteAll};
 
-use crate::answer::{Amount, Number, Units};
+use crate::answer::Amount;
 use bytes_at::{Walk, byte};
 use part::part_of;
 use refusal::Refusal;
@@ -23,36 +26,30 @@ pub enum Way {
     Unread,
 }
 
+// A walk's place; 9 where it does not stand.
+pub fn standing(w: Walk) -> Result<usize, Refusal>
+    ensures { outcome result ≡ standing w }
+{
+    w.map_err(|_| Refusal::Body)
+}
+
+// The place behind the segment whose head begins at `at`.
+pub fn past_segment(s: &[u8], end: usize, at: usize) -> Result<usize, Refusal>
+    ensures { outcome result ≡ standing (walks segment s.now end at) }
+{
+    standing(strings::segments(s, end, 1, at))
+}
+
 pub fn way_of(compression: usize, mode: usize) -> Way
     ensures { result ≡ way_of compression mode }
 {
-    if mode == 0 {
-        return match compression {
-            0 => Way::Plain,
-            1 => Way::Titles,
-            2 => Way::Descriptions,
-            _ => Way::Unread,
-        };
+    match (mode, compression) {
+        (0, 0) => Way::Plain,
+        (0, 1) => Way::Titles,
+        (0, 2) => Way::Descriptions,
+        (0x3F, 0) => Way::Utf16,
+        _ => Way::Unread,
     }
-    if mode == 0x3F {
-        return match compression {
-            0 => Way::Utf16,
-            _ => Way::Unread,
-        };
-    }
-    Way::Unread
-}
-
-fn one(x: u8) -> u16
-    ensures { result ≡ x }
-{
-    x as u16
-}
-
-fn two(a: u8, b: u8) -> u16
-    ensures { result ≡ 256 * a + b }
-{
-    256 * (a as u16) + (b as u16)
 }
 
 // Unit i of plain bytes, one or two of them a unit.
@@ -61,9 +58,9 @@ fn unit_at(s: &[u8], wide: bool, i: usize) -> u16
     ensures { result ≡ get_or (plain_pairs wide s.now) i 0 }
 {
     if wide {
-        two(s[2 * i], s[2 * i + 1])
+        256 * u16::from(s[2 * i]) + u16::from(s[2 * i + 1])
     } else {
-        one(s[i])
+        u16::from(s[i])
     }
 }
 
@@ -75,49 +72,45 @@ fn store(s: &[u8], wide: bool, k: usize, out: &mut [u16], n: usize)
     if out.len() <= n {
         return;
     }
-    let mut i = 0;
-    while i < k {
+    for i in 0..k {
         put_unit(out, n, i, unit_at(s, wide, i));
-        i += 1;
     }
 }
 
 // Bytes that are units.
-pub fn bytes(s: &[u8], out: &mut [u16], n: usize) -> Number
+pub fn bytes(s: &[u8], out: &mut [u16], n: usize) -> Result<usize, Refusal>
     requires { length s.now ≤ 255 }
     ensures { Wrote (resulted s.now) out.old n result out.new }
 {
     store(s, false, s.len(), out, n);
-    Number::Value(s.len())
+    Ok(s.len())
 }
 
-pub fn utf16(s: &[u8], out: &mut [u16], n: usize) -> Number
+pub fn utf16(s: &[u8], out: &mut [u16], n: usize) -> Result<usize, Refusal>
     requires { length s.now ≤ 255 }
     ensures { Wrote (utf16_units s.now) out.old n result out.new }
 {
     if s.len() % 2 != 0 {
-        return Number::Refused(Refusal::BrokenText);
+        return Err(Refusal::BrokenText);
     }
     store(s, true, s.len() / 2, out, n);
-    Number::Value(s.len() / 2)
+    Ok(s.len() / 2)
 }
 
 // One plain segment: its units from place n of the output on, and how many they are.
-fn plain_one(way: Way, s: &[u8], out: &mut [u16], n: usize) -> Number
+fn plain_one(way: Way, s: &[u8], out: &mut [u16], n: usize) -> Result<usize, Refusal>
     requires { length s.now ≤ 255 }
     ensures { Wrote (plain_by way s.now) out.old n result out.new }
 {
     match way {
         Way::Plain => bytes(s, out, n),
         Way::Utf16 => utf16(s, out, n),
-        Way::Titles => Number::Refused(Refusal::NotAReadPair),
-        Way::Descriptions => Number::Refused(Refusal::NotAReadPair),
-        Way::Unread => Number::Refused(Refusal::NotAReadPair),
+        Way::Titles | Way::Descriptions | Way::Unread => Err(Refusal::NotAReadPair),
     }
 }
 
 // The segment whose head begins at `at`.
-fn plain_at(s: &[u8], at: usize, out: &mut [u16], n: usize) -> Number
+fn plain_at(s: &[u8], at: usize, out: &mut [u16], n: usize) -> Result<usize, Refusal>
     requires { at + 3 < 2 ^ 64 }
     ensures { Wrote (plain_units s.now at) out.old n result out.new }
 {
@@ -127,28 +120,25 @@ fn plain_at(s: &[u8], at: usize, out: &mut [u16], n: usize) -> Number
 }
 
 // m segments from a place on, joined, from the output's start on.
-pub fn plain_segments(s: &[u8], end: usize, m: usize, from: usize, out: &mut [u16]) -> Units
+pub fn plain_segments(
+    s: &[u8],
+    end: usize,
+    m: usize,
+    from: usize,
+    out: &mut [u16],
+) -> Result<Amount, Refusal>
     requires { m < 256 }
     ensures { WroteAll (joined_plain s.now end m from) (joined_replaced s.now end m from) out.old result out.new }
 {
     let mut at = from;
-    let mut left = m;
     let mut n = 0;
-    while 0 < left {
-        let w = strings::segments(s, end, 1, at);
-        let Walk::To(b) = w else {
-            return Units::Refused(Refusal::Body);
-        };
-        match plain_at(s, at, out, n) {
-            Number::Refused(r) => return Units::Refused(r),
-            Number::Value(k) => {
-                at = b;
-                n += k;
-                left -= 1;
-            }
-        }
+    for _ in 0..m {
+        let b = past_segment(s, end, at)?;
+        let k = plain_at(s, at, out, n)?;
+        at = b;
+        n += k;
     }
-    Units::Are(Amount {
+    Ok(Amount {
         units: n,
         replaced: 0,
     })
@@ -157,13 +147,7 @@ pub fn plain_segments(s: &[u8], end: usize, m: usize, from: usize, out: &mut [u1
 fn is_compressed(way: Way) -> bool
     ensures { ((result ≡ false) → (b : List ℕ) → plain_by way b ≡ units_by way b) }
 {
-    match way {
-        Way::Plain => false,
-        Way::Utf16 => false,
-        Way::Titles => true,
-        Way::Descriptions => true,
-        Way::Unread => false,
-    }
+    matches!(way, Way::Titles | Way::Descriptions)
 }
 
 fn compressed_at(s: &[u8], at: usize) -> bool
@@ -178,16 +162,14 @@ pub fn any_compressed(s: &[u8], end: usize, m: usize, from: usize) -> bool
     ensures { ((result ≡ false) → joined_plain s.now end m from ≡ joined_units s.now end m from) }
 {
     let mut at = from;
-    let mut left = m;
-    while 0 < left {
-        let Walk::To(b) = strings::segments(s, end, 1, at) else {
+    for _ in 0..m {
+        let Ok(b) = past_segment(s, end, at) else {
             return false;
         };
         if compressed_at(s, at) {
             return true;
         }
         at = b;
-        left -= 1;
     }
     false
 }

@@ -1,3 +1,3 @@
 pub mod ReadLaws
 pub mod TitlesLaws
-pub mod OnceLaws
+pub mod KeepLaws

@@ -20,9 +20,7 @@ use Rattle.strings.specs.Places.{text_at, text_end}
 use Rattle.descriptor.specs.Places.{list_end}
 use Rattle.segment.proofs.TextLaws.{stored}
 use Rattle.text.specs.declared.answer.Amount.{Amount}
-use Rattle.text.specs.declared.answer.Units.{Units}
-use Rattle.text.specs.declared.answer.Units.TheVariants as amounts
-use Rattle.text.specs.Answers.{units_outcome}
+use Rattle.std.specs.Prelude.{Result, Ok, Err}
 use Rattle.text.specs.Strings.{string_units, string_replaced}
 use Rattle.text.specs.Inner.{OnceAll}
 use Rattle.text.proofs.AmountLaws.{from_amount, from_replaced, from_no_amount}
@@ -37,51 +35,47 @@ use Rattle.titles.specs.Titles.{TitleTold, text, text_told, told_of, title_told,
 use Rattle.titles.specs.Inner.{unit_count, row_of, told, Read}
 
 -- ---- a text by the answer and the array
-module _ (x : Outcome (List ℕ)) (p : ℕ) (l e : List ℕ) (r : Units) (o : OnceAll x p l r e) (h : length l ≡ 2040) where
-  pub read_refused : (k : Refusal) → r ≡ amounts.Refused k → Read (text_told p x) (found.Refused k) e
+module _ (x : Outcome (List ℕ)) (p : ℕ) (l e : List ℕ) (h : length l ≡ 2040) (g : p < 256) where
+  pub read_found : (r : Result Amount Refusal) → OnceAll x p l r e → Read (text_told p x) (found.Text r) e
   unfolding text_told told
-  read_refused k q =
-      let v = from_no_amount p x (number_of k) (sym (ap units_outcome q) ∙ o.wrote.answers) in
-      record { tells = rw v; few = omega arith; rare = omega arith; long = o.long ∙ h }
-
-  pub read_units : (a : Amount) → r ≡ amounts.Are a → p < 256 → Read (text_told p x) (found.Text a) e
-  unfolding text_told told
-  read_units a q g =
+  read_found (Err k) o =
+      let v = from_no_amount p x (number_of k) o.wrote.answers in
+      record { tells = rw v; few = omega arith; rare = omega arith }
+  read_found (Ok a) o =
       let n : ℕ = a.units in
-      let j = sym (ap units_outcome q) ∙ o.wrote.answers in
-      let f = from_number x n (from_amount p x a j) in
-      let m = from_replaced p x a j in
-      let b = o.few a q in
+      let f = from_number x n (from_amount p x a o.wrote.answers) in
+      let m = from_replaced p x a o.wrote.answers in
+      let b = o.few a refl in
       let w = o.wrote.stores f.0 f.1.0 in
       let room : length f.0 ≤ length l = omega (arith, f.1.1) in
       let t : take n e ≡ f.0 = ap (take n) w ∙ ap (λ (i : ℕ). take i (sets l 0 f.0)) f.1.1 ∙ stored l f.0 room in
-      record { tells = (λ i. text (t i) (m i)) ∙ sym (ap (text_told p) f.1.0); few = b; rare = omega (arith, g, m); long = o.long ∙ h }
+      record { tells = (λ i. text (t i) (m i)) ∙ sym (ap (text_told p) f.1.0); few = b; rare = omega (arith, g, m) }
 
 -- ---- what was read is what is told: its numbers, and its units
-module _ {t : TitleTold} {r : Found} {o : List ℕ} (i : Read t r o) where
+module _ {t : TitleTold} {r : Found} {o : List ℕ} (i : Read t r o) (h : length o ≡ 2040) where
   count_by : (r : Found) → unit_count r ≤ length o → unit_count r ≡ length (units_told (told r o))
   unfolding told units_told
   count_by found.NoTitle h = refl
   count_by found.NoStrings h = refl
-  count_by (found.Refused k) h = refl
-  count_by (found.Text a) h = sym (length-take-le a.units o h)
+  count_by (found.Text (Err k)) h = refl
+  count_by (found.Text (Ok a)) h = sym (length-take-le a.units o h)
 
   row_by : (n : ℕ) (r : Found) → unit_count r ≤ length o → row_of n r ≡ title_row n (told r o)
   unfolding told row_of title_row
   row_by n found.NoTitle h = refl
   row_by n found.NoStrings h = refl
-  row_by n (found.Refused k) h = refl
-  row_by n (found.Text a) h = rw (length-take-le a.units o h)
+  row_by n (found.Text (Err k)) h = refl
+  row_by n (found.Text (Ok a)) h = rw (length-take-le a.units o h)
 
   units_by_lem : (r : Found) → take (unit_count r) o ≡ units_told (told r o)
   unfolding told units_told
   units_by_lem found.NoTitle = refl
   units_by_lem found.NoStrings = refl
-  units_by_lem (found.Refused k) = refl
-  units_by_lem (found.Text a) = refl
+  units_by_lem (found.Text (Err k)) = refl
+  units_by_lem (found.Text (Ok a)) = refl
 
   fits : unit_count r ≤ length o
-  fits = omega (arith, i.few, i.long)
+  fits = omega (arith, i.few)
 
   pub count_told_lem : unit_count r ≡ length (units_told t)
   count_told_lem = rw (← i.tells) (count_by r fits)

@@ -48,22 +48,22 @@ units_few s (suc k) a v =
     omega (arith, units_few s k (event_end s a) w, e, title_few s a, title_inside s a)
 
 -- ---- counted, one after the other
-pub record CountLeft (s : List ℕ) (total : ℕ) (o : List ℕ) (a n k : ℕ) : Type 0 where
+pub record CountLeft (s : List ℕ) (total a n k : ℕ) : Type 0 where
   pub events : Events s k a
-  pub long : length o ≡ 2040
   pub leads : n + length (units_from s k a) ≡ total
 
-module _ {s : List ℕ} {total : ℕ} {o : List ℕ} {a n k : ℕ} (left : CountLeft s total o a n k) where
+pub count_first : {s : List ℕ} {a k left : ℕ} → Events s k a → left ≡ k → CountLeft s (length (units_from s k a)) a 0 left
+count_first v e = rw e (record { events = v; leads = omega arith })
+
+module _ {s : List ℕ} {total a n k : ℕ} (left : CountLeft s total a n k) where
   pub count_room : 0 < k → n + added s a ≤ total
   count_room h = omega (arith, left.leads, count_left s k a h)
 
-  pub count_step : (e : List ℕ) (b m : ℕ) → 0 < k → m ≡ added s a → b ≡ event_end s a → length e ≡ 2040
-      → CountLeft s total e b (n + m) (k - 1)
-  count_step e b m h count next long =
-      rw (next, count)
+  pub count_step : (b m next : ℕ) → 0 < k → next ≡ k - 1 → m ≡ added s a → b ≡ event_end s a → CountLeft s total b (n + m) next
+  count_step b m next h fewer count behind =
+      rw (fewer, behind, count)
       (record {
         events = events_step s k a left.events h;
-        long = long;
         leads = omega (arith, left.leads, count_left s k a h);
       })
 
@@ -78,13 +78,19 @@ row_four n no_strings = refl
 row_four n (refused_title k) = refl
 row_four n (text us replaced) = refl
 
-pub record TitlesLeft (s : List ℕ) (total : ℕ) (rows₀ rows₁ units₀ units₁ : List ℕ) (o rows units : List ℕ) (a p n k : ℕ) : Type 0 where
-  pub count : CountLeft s total o a n k
+pub record TitlesLeft (s : List ℕ) (total : ℕ) (rows₀ rows₁ units₀ units₁ rows units : List ℕ) (a p n k : ℕ) : Type 0 where
+  pub count : CountLeft s total a n k
   pub same_rows : length rows ≡ length rows₀
   pub same_units : length units ≡ length units₀
   pub room : p + 12 * k ≤ length rows₀
   pub rows_lead : sets rows p (title_rows_from s n k a) ≡ rows₁
   pub units_lead : sets units n (units_from s k a) ≡ units₁
+
+pub titles_first : {s rows units : List ℕ} {a k left : ℕ} → Events s k a → 12 * k ≤ length rows → left ≡ k
+    → TitlesLeft s (length (units_from s k a)) rows (sets rows 0 (title_rows_from s 0 k a)) units (sets units 0 (units_from s k a)) rows units a 0 0 left
+titles_first v r e =
+    rw e
+    (record { count = count_first v refl; same_rows = refl; same_units = refl; room = omega (arith, r); rows_lead = refl; units_lead = refl })
 
 module _ (s : List ℕ) where
   rows_more : (l : List ℕ) (p n k a : ℕ) → 0 < k
@@ -110,8 +116,8 @@ module _ (s : List ℕ) where
   unfolding title_rows_from
   rows_none l p n k a e = rw e
 
-module _ {s : List ℕ} {total : ℕ} {rows₀ rows₁ units₀ units₁ o rows units : List ℕ} {a p n k : ℕ}
-    (left : TitlesLeft s total rows₀ rows₁ units₀ units₁ o rows units a p n k) where
+module _ {s : List ℕ} {total : ℕ} {rows₀ rows₁ units₀ units₁ rows units : List ℕ} {a p n k : ℕ}
+    (left : TitlesLeft s total rows₀ rows₁ units₀ units₁ rows units a p n k) where
   -- the next title's numbers and units have room
   pub row_room : (rows' : List ℕ) → 0 < k → rows' ≡ sets rows p (event_row s a) → p + 8 + 4 ≤ length rows'
   row_room rows' h e = omega (arith, left.room, left.same_rows, ap length e ∙ length-sets rows p (event_row s a))
@@ -119,20 +125,20 @@ module _ {s : List ℕ} {total : ℕ} {rows₀ rows₁ units₀ units₁ o rows 
   pub units_room : 0 < k → total ≤ length units₀ → n + added s a ≤ length units
   units_room h r = omega (arith, count_room left.count h, left.same_units, r)
 
-  pub titles_step : (e rows' rows'' units' : List ℕ) (b m : ℕ) → 0 < k → rows' ≡ sets rows p (event_row s a)
+  pub titles_step : (rows' rows'' units' : List ℕ) (b m next : ℕ) → 0 < k → next ≡ k - 1 → rows' ≡ sets rows p (event_row s a)
       → rows'' ≡ sets rows' (p + 8) (title_row n (title_told s a)) → units' ≡ sets units n (units_told (title_told s a))
-      → b ≡ event_end s a → m ≡ n + added s a → length e ≡ 2040
-      → TitlesLeft s total rows₀ rows₁ units₀ units₁ e rows'' units' b (p + 12) m (k - 1)
-  titles_step e rows' rows'' units' b m h event four put next count long =
+      → b ≡ event_end s a → m ≡ n + added s a
+      → TitlesLeft s total rows₀ rows₁ units₀ units₁ rows'' units' b (p + 12) m next
+  titles_step rows' rows'' units' b m next h fewer event four put behind count =
       let q : rows'' ≡ sets (sets rows p (event_row s a)) (p + 8) (title_row n (title_told s a)) = rw event at four in
-      rw count
+      rw (fewer, count)
       (record {
-        count = count_step left.count e b (added s a) h refl next long;
+        count = count_step left.count b (added s a) (k - 1) h refl refl behind;
         same_rows = ap length q ∙ length-sets (sets rows p (event_row s a)) (p + 8) (title_row n (title_told s a)) ∙ length-sets rows p (event_row s a) ∙ left.same_rows;
         same_units = ap length put ∙ length-sets units n (units_told (title_told s a)) ∙ left.same_units;
         room = omega (arith, left.room);
-        rows_lead = rw (q, next) (rows_more s rows p n k a h ∙ left.rows_lead);
-        units_lead = rw (put, next) (units_more s units n k a h ∙ left.units_lead);
+        rows_lead = rw (q, behind) (rows_more s rows p n k a h ∙ left.rows_lead);
+        units_lead = rw (put, behind) (units_more s units n k a h ∙ left.units_lead);
       })
 
   pub rows_done : k ≡ 0 → rows ≡ rows₁

@@ -1,7 +1,6 @@
 -- SCOPE 2.4, 3.1, 4.4 and 6.2: all events of an EIT with the text of their titles, in two lent lists of numbers: 1 to 9, then 12.
 use Rattle.std.specs.Prelude.{ℕ, zero, suc, ◌+◌, ◌*◌, List, [], ◌∷◌, ◌++◌, length, leb}
 use Rattle.std.proofs.lemmas.List.Edits.{sets}
-use Rattle.refusal.specs.Numbers.{number_of}
 use Rattle.refusal.specs.Outcomes.{Outcome, refused, resulted, after, or_refuse}
 use Rattle.refusal.specs.Outputs.{no_value}
 use Rattle.kind.specs.declared.Kind.TheVariants.{Eit}
@@ -12,8 +11,8 @@ use Rattle.eit.specs.declared.event.Title.{Title}
 use Rattle.eit.specs.declared.event.Title.TheVariants.{None, NoStrings, Text}
 use Rattle.eit.specs.Fields.{count_at, first_at, title_at, event_row, event_end}
 use Rattle.section.specs.Sections.{section_by}
-use Rattle.titles.specs.declared.TitlesAnswer.{TitlesAnswer}
-use Rattle.titles.specs.declared.TitlesAnswer.TheVariants.{Refused, Are}
+-- how many events and units there are
+pub use Rattle.titles.specs.declared.Counts.{Counts}
 
 -- ---- a title
 -- what is told of it: that there is none; that it has no strings; the number that refuses the text of its first string; or the units of
@@ -77,11 +76,6 @@ event_count s = count_at s (limits_of Eit).body
 abbrev pub first_event : ℕ
 first_event = first_at (limits_of Eit).body
 
--- how many events and units there are
-pub record Counts : Type 0 where
-  pub events : ℕ
-  pub units : ℕ
-
 -- 12 where one of the two lists has no room: exactly enough is enough
 unfoldable pub room_for_titles : Counts → ℕ → ℕ → Outcome Counts
 room_for_titles c rows units = or_refuse 12 (leb (12 * c.events) rows) (or_refuse 12 (leb c.units units) (resulted c))
@@ -102,7 +96,3 @@ with_title_rows s (resulted c) l = sets l 0 (title_rows_from s 0 c.events first_
 unfoldable pub with_units : List ℕ → Outcome Counts → List ℕ → List ℕ
 with_units s (refused k) l = l
 with_units s (resulted c) l = sets l 0 (units_from s c.events first_event)
-
-abbrev pub titles_outcome : TitlesAnswer → Outcome Counts
-titles_outcome (Refused k) = refused (number_of k)
-titles_outcome (Are n m) = resulted (record { events = n; units = m })

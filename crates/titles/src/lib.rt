@@ -6,47 +6,44 @@ mod title;
 
 ghost use Rattle.std.specs.Prelude.{◌≡◌, true, false, ◌*◌, ◌<◌, ◌≤◌, length};
 ghost use Rattle.std.proofs.lemmas.List.Edits.{sets};
+ghost use Rattle.refusal.specs.Outcomes.{outcome};
 ghost use Rattle.eit.specs.Inner.{Events};
-ghost use Rattle.titles.specs.Titles.{event_count, first_event, units_from, title_rows_from, titles_in, titles_of, with_title_rows, with_units, titles_outcome};
+ghost use Rattle.titles.specs.Titles.{event_count, first_event, units_from, title_rows_from, titles_in, titles_of, with_title_rows, with_units};
 
 use crate::title::{put_title, read_title, units_of};
 use eit::{count, event_end, first, put_row};
 use kind::Kind;
 use refusal::Refusal;
 use section::inner::body_start;
-use section::{Head, judge_kind};
+use section::judge_kind;
 pub use title::{NO_STRINGS, NO_TITLE, NO_VALUE, TEXT};
 
-// How many events there are, and how many units their titles have, or a refusal.
+// How many events there are, and how many units their titles have.
 #[derive(Clone, Copy)]
-pub enum TitlesAnswer {
-    Refused(Refusal),
-    Are { events: usize, units: usize },
+pub struct Counts {
+    pub events: usize,
+    pub units: usize,
 }
 
 // How many units the titles of k events have, the first of which begins at `from`.
 fn count_units(s: &[u8], k: usize, from: usize, o: &mut [u16; 2040]) -> usize
-    requires { Events s.now k from × (length o.old ≡ 2040) }
-    ensures counts { result ≡ length (units_from s.now k from) }
-    ensures keeps { length o.new ≡ 2040 }
+    requires { Events s.now k from }
+    ensures { result ≡ length (units_from s.now k from) }
 {
     let mut a = from;
     let mut n = 0;
-    let mut left = k;
-    while 0 < left {
+    for _ in 0..k {
         n += units_of(read_title(s, a, o));
         a = event_end(s, a);
-        left -= 1;
     }
     n
 }
 
 // Whether a list of so many units has room for theirs. A byte has at most eight units, so that a long list needs no count.
 fn has_room(s: &[u8], k: usize, from: usize, o: &mut [u16; 2040], room: usize) -> bool
-    requires { Events s.now k from × (length o.old ≡ 2040) }
+    requires { Events s.now k from }
     ensures enough { (result ≡ true) → length (units_from s.now k from) ≤ room }
     ensures short { (result ≡ false) → room < length (units_from s.now k from) }
-    ensures keeps { length o.new ≡ 2040 }
 {
     if 8 * s.len() <= room {
         return true;
@@ -63,7 +60,7 @@ fn put_titles(
     rows: &mut [u32],
     units: &mut [u16],
 ) -> usize
-    requires { (Events s.now k from × (length o.old ≡ 2040)) × ((12 * k ≤ length rows.old) × (length (units_from s.now k from) ≤ length units.old)) }
+    requires { Events s.now k from × (12 * k ≤ length rows.old) × (length (units_from s.now k from) ≤ length units.old) }
     ensures counts { result ≡ length (units_from s.now k from) }
     ensures rows { rows.new ≡ sets rows.old 0 (title_rows_from s.now 0 k from) }
     ensures units { units.new ≡ sets units.old 0 (units_from s.now k from) }
@@ -71,21 +68,19 @@ fn put_titles(
     let mut a = from;
     let mut p = 0;
     let mut n = 0;
-    let mut left = k;
-    while 0 < left {
+    for _ in 0..k {
         let next = put_row(s, a, p, rows);
         n = put_title(s, a, p + 8, n, o, rows, units);
         a = next;
         p += 12;
-        left -= 1;
     }
     n
 }
 
 // The events and titles of a section that was judged. The array is there once for all titles.
-fn titles_in(s: &[u8], rows: &mut [u32], units: &mut [u16]) -> TitlesAnswer
+fn titles_in(s: &[u8], rows: &mut [u32], units: &mut [u16]) -> Result<Counts, Refusal>
     requires { Events s.now (event_count s.now) first_event }
-    ensures told { titles_outcome result ≡ titles_in s.now (length rows.old) (length units.old) }
+    ensures told { outcome result ≡ titles_in s.now (length rows.old) (length units.old) }
     ensures rows { rows.new ≡ with_title_rows s.now (titles_in s.now (length rows.old) (length units.old)) rows.old }
     ensures units { units.new ≡ with_units s.now (titles_in s.now (length rows.old) (length units.old)) units.old }
 {
@@ -93,27 +88,25 @@ fn titles_in(s: &[u8], rows: &mut [u32], units: &mut [u16]) -> TitlesAnswer
     let k = count(s, at);
     let from = first(at);
     if rows.len() < 12 * k {
-        return TitlesAnswer::Refused(Refusal::OutputShort);
+        return Err(Refusal::OutputShort);
     }
     let mut o = [0u16; 2040];
     if has_room(s, k, from, &mut o, units.len()) {
         let n = put_titles(s, k, from, &mut o, rows, units);
-        return TitlesAnswer::Are {
+        return Ok(Counts {
             events: k,
             units: n,
-        };
+        });
     }
-    TitlesAnswer::Refused(Refusal::OutputShort)
+    Err(Refusal::OutputShort)
 }
 
 // All events, and their titles' first strings.
-pub fn titles(s: &[u8], rows: &mut [u32], units: &mut [u16]) -> TitlesAnswer
-    ensures told { titles_outcome result ≡ titles_of s.now (length rows.old) (length units.old) }
+pub fn titles(s: &[u8], rows: &mut [u32], units: &mut [u16]) -> Result<Counts, Refusal>
+    ensures told { outcome result ≡ titles_of s.now (length rows.old) (length units.old) }
     ensures rows { rows.new ≡ with_title_rows s.now (titles_of s.now (length rows.old) (length units.old)) rows.old }
     ensures units { units.new ≡ with_units s.now (titles_of s.now (length rows.old) (length units.old)) units.old }
 {
-    match judge_kind(s, Kind::Eit) {
-        Head::Refused(k) => TitlesAnswer::Refused(k),
-        Head::Passes(_h) => titles_in(s, rows, units),
-    }
+    judge_kind(s, Kind::Eit)?;
+    titles_in(s, rows, units)
 }

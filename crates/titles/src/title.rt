@@ -9,9 +9,9 @@ ghost use Rattle.titles.specs.Inner.{Read, unit_count, replaced_in, row_of};
 use eit::{Title, title_at};
 use part::{Part, part_of};
 use refusal::Refusal;
-use row::{narrow, put4};
+use row::{narrow, put_all};
+use text::Amount;
 use text::inner::{copy_units, string_read};
-use text::{Amount, Units};
 
 // The sorts of a title in its row; one whose text is refused has the refusal's number for its sort.
 pub const NO_TITLE: u32 = 1;
@@ -28,25 +28,21 @@ pub const NO_VALUE: u32 = 0xffff_ffff;
 pub enum Found {
     NoTitle,
     NoStrings,
-    Refused(Refusal),
-    Text(Amount),
+    Text(Result<Amount, Refusal>),
 }
 
 // The text of a title that stands at p.
 fn read_text(s: &[u8], p: Part, o: &mut [u16; 2040]) -> Found
-    requires { (p.length < 256) × (length o.old ≡ 2040) }
+    requires { p.length < 256 }
     ensures { Read (told_of s.now (Title.Text p)) result o.new }
 {
     let f = part_of(s, p.start, p.length);
-    match string_read(f, f.len(), 0, 0, o) {
-        Units::Refused(k) => Found::Refused(k),
-        Units::Are(a) => Found::Text(a),
-    }
+    Found::Text(string_read(f, f.len(), 0, 0, o))
 }
 
 // The title of the event that begins at a.
 pub fn read_title(s: &[u8], a: usize, o: &mut [u16; 2040]) -> Found
-    requires { (a ≤ length s.now) × (length o.old ≡ 2040) }
+    requires { a ≤ length s.now }
     ensures { Read (title_told s.now a) result o.new }
 {
     match title_at(s, a) {
@@ -61,19 +57,18 @@ pub fn units_of(t: Found) -> usize
     ensures { result ≡ unit_count t }
 {
     match t {
-        Found::NoTitle => 0,
-        Found::NoStrings => 0,
-        Found::Refused(_k) => 0,
-        Found::Text(a) => a.units,
+        Found::Text(Ok(a)) => a.units,
+        _ => 0,
     }
 }
 
 // The four numbers of a title that is no text, from p on.
+#[tactic(auto, unfolding(crate::specs::Titles::blank_row))]
 fn put_blank(sort: u32, p: usize, rows: &mut [u32])
     requires { p + 4 ≤ length rows.old }
     ensures { rows.new ≡ sets rows.old p (blank_row sort) }
 {
-    put4(rows, p, sort, NO_VALUE, NO_VALUE, NO_VALUE);
+    put_all(rows, p, [sort, NO_VALUE, NO_VALUE, NO_VALUE]);
 }
 
 fn number_of(k: Refusal) -> u32
@@ -90,15 +85,14 @@ fn put_found(t: Found, n: usize, p: usize, rows: &mut [u32])
     match t {
         Found::NoTitle => put_blank(NO_TITLE, p, rows),
         Found::NoStrings => put_blank(NO_STRINGS, p, rows),
-        Found::Refused(k) => put_blank(number_of(k), p, rows),
-        Found::Text(a) => put4(
-            rows,
-            p,
-            TEXT,
-            narrow(n),
-            narrow(a.units),
-            narrow(a.replaced),
-        ),
+        Found::Text(r) => match r {
+            Ok(a) => put_all(
+                rows,
+                p,
+                [TEXT, narrow(n), narrow(a.units), narrow(a.replaced)],
+            ),
+            Err(k) => put_blank(number_of(k), p, rows),
+        },
     }
 }
 
@@ -112,11 +106,10 @@ pub fn put_title(
     rows: &mut [u32],
     units: &mut [u16],
 ) -> usize
-    requires { ((a ≤ length s.now) × (length o.old ≡ 2040)) × ((p + 4 ≤ length rows.old) × ((n < 4294967296) × (n + length (units_told (title_told s.now a)) ≤ length units.old))) }
+    requires { (a ≤ length s.now) × (p + 4 ≤ length rows.old) × (n < 4294967296) × (n + length (units_told (title_told s.now a)) ≤ length units.old) }
     ensures next { result ≡ n + length (units_told (title_told s.now a)) }
     ensures rows { rows.new ≡ sets rows.old p (title_row n (title_told s.now a)) }
     ensures units { units.new ≡ sets units.old n (units_told (title_told s.now a)) }
-    ensures keeps { length o.new ≡ 2040 }
 {
     let t = read_title(s, a, o);
     let k = units_of(t);

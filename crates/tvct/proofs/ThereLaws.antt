@@ -28,7 +28,7 @@ pub same_walk : (s : List ℕ) (end at : ℕ) → walks_all tvct s end at ≡ wa
 unfolding tvct channels channel list10
 same_walk s end at = refl
 
-module _ (s : List ℕ) (z : Bytes s) (at end : ℕ) (b : TvctFields) (o : tvct_format.Ok (record {}) b) (l : Lies (tvct_format.enc b) s at)
+module _ (s : List ℕ) (z : Bytes s) (at end : ℕ) (b : TvctFields) (o : tvct_format.Formed (record {}) b) (l : Lies (tvct_format.enc b) s at)
     (whole : end ≡ at + length (tvct_format.enc b)) where
   -- the channels with their count, and the table's own descriptors with their length
   abbrev listed : List ℕ

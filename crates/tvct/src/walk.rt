@@ -11,10 +11,7 @@ use descriptor::{NO_TAG, whole_list10};
 fn all_channels(s: &[u8], end: usize, at: usize) -> Walk
     ensures { result ≡ walks channels s.now end at }
 {
-    let w = skip(0, at, 1, end);
-    let Walk::To(b) = w else {
-        return w;
-    };
+    let b = skip(0, at, 1, end)?;
     past(s, end, back(s, b, 1), b)
 }
 
@@ -22,13 +19,7 @@ fn all_channels(s: &[u8], end: usize, at: usize) -> Walk
 pub fn body(s: &[u8], end: usize, at: usize) -> Walk
     ensures { result ≡ walks_all tvct s.now end at }
 {
-    let w = all_channels(s, end, at);
-    let Walk::To(b) = w else {
-        return w;
-    };
-    let v = whole_list10(s, NO_TAG, end, b);
-    let Walk::To(e) = v else {
-        return v;
-    };
+    let b = all_channels(s, end, at)?;
+    let e = whole_list10(s, NO_TAG, end, b)?;
     at_end(e, end)
 }

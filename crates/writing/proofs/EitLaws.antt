@@ -1,12 +1,14 @@
 -- An EIT that is written: its length, its tests, and what they have shown.
-use Prim.Native.Nat.{ℕ, ◌+◌, ◌*◌, ◌/◌, ◌<◌, ◌≤◌}
+use Prim.Native.Nat.{ℕ, ◌+◌, ◌*◌, ◌/◌, ◌<◌, ◌≤◌, min}
 use mathlib.Core.Path.{◌≡◌, refl, sym, ap, ◌∙◌}
 use mathlib.Core.Bool.{Bool, true, false, not}
 use mathlib.Core.List.{List}
 use native.Mathlib.Omega.{arith}
 use lib.Dec.{eqb, ltb}
 use lib.ListN.{length, length-append}
-use borrow.Author.Tests.{le-ltb, ltb-true, eqb-true, not-false}
+use borrow.Author.Tests.{le-ltb, ltb-true, ltb-false, eqb-true, not-false}
+use Rattle.std.proofs.Math.Nat.{min-eq_left, min-eq_right}
+use Rattle.logic.specs.Choices.{pick}
 use Rattle.logic.specs.Loops.{◌&◌}
 use Rattle.logic.proofs.LoopLaws.{and_left, and_right}
 use Rattle.refusal.specs.Outcomes.{resulted}
@@ -83,3 +85,8 @@ module _ (g : Given) (count : ℕ) (rows bytes : List ℕ) where
         },
         x.1.0 ∙ ap resulted (sym f.1),
       )
+
+-- the rows that are there, or those that are counted: the lesser
+pub lesser : (there count : ℕ) (t : Bool) → ltb there count ≡ t → min count there ≡ pick t there count
+lesser there count true e = min-eq_right (omega (arith, ltb-true there count e))
+lesser there count false e = min-eq_left (ltb-false there count e)

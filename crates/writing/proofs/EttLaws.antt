@@ -1,22 +1,18 @@
 -- An ETT that is written: its length, its tests, and what they have shown.
 use Prim.Native.Nat.{ℕ, ◌+◌, ◌<◌}
 use mathlib.Core.Path.{◌≡◌, sym, ap, ◌∙◌}
-use mathlib.Core.Bool.{false}
 use mathlib.Core.List.{List}
 use native.Mathlib.Omega.{arith}
 use lib.ListN.{length}
-use lib.Dec.{ltb}
-use borrow.Author.Tests.{lt-ltb, le-ltb, ltb-true, lt-leb}
+use borrow.Author.Tests.{ltb-true, lt-leb}
 use Rattle.logic.specs.Loops.{◌&◌}
 use Rattle.logic.proofs.LoopLaws.{and_left, and_right}
-use Rattle.bytes_at.specs.declared.Walk.{Walk}
 use Rattle.refusal.specs.Outcomes.{refused, resulted, or_refuse}
 use Rattle.refusal.specs.Outputs.{counted}
 use Rattle.refusal.proofs.OutputLaws.{from_number}
 use Rattle.kind.specs.declared.Kind.TheVariants.{Ett}
-use Rattle.format.specs.Formats.{any_bytes, walks_all}
+use Rattle.format.specs.Formats.{any_bytes}
 use Rattle.strings.specs.Strings.{text}
-use Rattle.eit.specs.Given.{stands}
 use Rattle.ett.specs.Format.{ett_of}
 use Rattle.ett.proofs.WritingLaws.{body_size}
 use Rattle.section.specs.declared.write.Given.{Given}
@@ -47,16 +43,6 @@ module _ (g : Given) (etm : ℕ) (t : List ℕ) where
       let body = (ett_of any_bytes).enc (record { etm = etm; text = t }) in
       let f = has_room Ett g body (length t + 4) room (omega arith) body_length x.0 (and_left _ _ a.0) c.1 in
       ((f.0, ltb-true _ _ (and_right _ _ a.0)), x.1.0 ∙ ap resulted (sym f.1))
-
--- 9: of a text that is not empty its walk decides
-pub text_empty : (t : List ℕ) → length t ≡ 0 → false ≡ ltb 0 (length t) & stands (walks_all text t (length t) 0)
-unfolding ◌&◌
-text_empty t e = rw (le-ltb 0 (length t) (omega arith))
-
-pub text_told_lem : (t : List ℕ) {w v : Walk} → (length t ≡ 0 → ⊥) → w ≡ walks_all text t (length t) 0 → w ≡ v
-    → stands v ≡ ltb 0 (length t) & stands (walks_all text t (length t) 0)
-unfolding ◌&◌
-text_told_lem t n e f = rw (lt-ltb 0 (length t) (omega arith)) (ap stands (sym f ∙ e))
 
 -- 24: so long a text has no room in any section
 pub text_long : (room n : ℕ) → 4096 < n → refused 24 ≡ or_refuse 24 (length_fits Ett room (n + 17)) (resulted (n + 17))

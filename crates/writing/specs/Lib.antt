@@ -1,4 +1,3 @@
 -- The definitions, in reading order; Inner is for functions over numbers that were tested.
 pub mod Written
-pub mod Answers
 pub mod Inner

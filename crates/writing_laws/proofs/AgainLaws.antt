@@ -26,7 +26,7 @@ use Rattle.section.proofs.EncodingLaws.{encode_bytes, accepts}
 use Rattle.entry.specs.declared.Entry.TheVariants.{Event}
 use Rattle.entry.specs.Records.{begin_of}
 use Rattle.entry.proofs.RecordLaws.{entries_stand}
-use Rattle.rows.specs.declared.Row.TheVariants as row
+use Rattle.entry.specs.declared.Entry.TheVariants as row
 use Rattle.section_laws.specs.Rows.{rows_told}
 use Rattle.section_laws.proofs.TableLaws.{eit_reads_lem}
 use Rattle.writing_laws.specs.RoundTrips.{given_of, as_bytes, EitWriter, Inside, GivesEit, WritesEit, event_rows, RewritesEit}
@@ -87,7 +87,7 @@ event_size : (e : EventFields) → length (event_format.enc e) ≡ 12 + length (
 event_size e = simp (length-append, bytes_length) (omega arith)
 
 module _ (s : List ℕ) (a : ℕ) (e : EventFields) (rest : List ℕ) where
-  first_gives : Bytes s → event_format.Ok (record {}) e → Lies (event_format.enc e) s a → OnesEvent e
+  first_gives : Bytes s → event_format.Formed (record {}) e → Lies (event_format.enc e) s a → OnesEvent e
       → as_bytes e ≡ event_given (row_for a e ++ rest) s 0
   unfolding event_given part_row
   first_gives z o l v =

@@ -7,7 +7,7 @@ use native.Mathlib.Omega.{arith}
 use lib.ListN.{length, length-append, length-map}
 use borrow.Author.Tests.{ltb-true, eqb-true, lt-ltb, eq-eqb}
 use Rattle.logic.proofs.LoopLaws.{and_left, and_right, and_i}
-use Rattle.bytes_at.specs.declared.Walk.TheVariants.{To}
+use Rattle.std.specs.Prelude.{Ok}
 use Rattle.refusal.specs.Outcomes.{resulted}
 use Rattle.kind.specs.declared.Kind.TheVariants.{Eit}
 use Rattle.format.proofs.KeptLaws.{laws}
@@ -99,11 +99,11 @@ module _ (g : Given) (count : ℕ) (rows bytes : List ℕ) (room : ℕ) (z : Byt
       ((given Eit g (record { events = es }), (v, d.0 ∙ same)), omega (arith, ap length d.0))
 
 -- ---- rows of well-formed events pass the tests
-part_passes : (f : Filling One) (bytes : List ℕ) (p : Part) (x : f.Val) → f.Ok (record {}) x → end_of p ≤ length bytes → f.enc x ≡ bytes_in bytes p
+part_passes : (f : Filling One) (bytes : List ℕ) (p : Part) (x : f.Val) → f.Formed (record {}) x → end_of p ≤ length bytes → f.enc x ≡ bytes_in bytes p
     → part_sound f bytes p ≡ true
 part_passes f bytes p x o h e =
     let w = (own_bytes f (record {}) (f.enc x) ((f.law laws (record {})).bytes x o)).1 (x, (o, refl)) in
-    sym (part_told f bytes p {t = f.enc x} {w = To w.0} {r = true} h e (sym w.1) refl)
+    sym (part_told f bytes p {t = f.enc x} {w = Ok w.0} {r = true} h e (sym w.1) refl)
 
 -- what an event as bytes is where its row gives it
 module _ (rows bytes : List ℕ) (a : ℕ) (e : EventFields) (q : as_bytes e ≡ event_given rows bytes a) where
@@ -119,7 +119,7 @@ module _ (rows bytes : List ℕ) (a : ℕ) (e : EventFields) (q : as_bytes e ≡
   unfolding event_given
   list_is = ap (λ (x : EventOf (List ℕ) (List ℕ)). x.descs) q
 
-module _ (rows bytes : List ℕ) (a : ℕ) (e : EventFields) (o : event_format.Ok (record {}) e) (q : as_bytes e ≡ event_given rows bytes a)
+module _ (rows bytes : List ℕ) (a : ℕ) (e : EventFields) (o : event_format.Formed (record {}) e) (q : as_bytes e ≡ event_given rows bytes a)
     (h : Inside rows bytes a) where
   row_room : HasRoom rows a
   row_room =
@@ -144,7 +144,7 @@ module _ (rows bytes : List ℕ) (a : ℕ) (e : EventFields) (o : event_format.O
       and_i _ _ (part_passes text bytes (title_given rows a) e.title o.1.0.1.1.1 h.0 (title_is rows bytes a e q))
       (part_passes (descriptors content_advisory) bytes (list_given rows a) e.descs o.1.1.1.1.1 h.1 (list_is rows bytes a e q))
 
-rows_pass : (rows bytes : List ℕ) (a : ℕ) (es : List EventFields) → All (event_format.Ok (record {})) es
+rows_pass : (rows bytes : List ℕ) (a : ℕ) (es : List EventFields) → All (event_format.Formed (record {})) es
     → map as_bytes es ≡ events_given rows bytes (length es) a → ((i : ℕ) → i < length es → Inside rows bytes (a + 8 * i))
     → (rows_fit rows (length es) a ≡ true) × (rows_sound rows bytes (length es) a ≡ true)
 unfolding rows_fit rows_sound events_given

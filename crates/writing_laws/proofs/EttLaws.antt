@@ -1,9 +1,9 @@
 -- An ETT that is written: the encoding of the record given, which reads as given; and what was read is written as it was.
+use Rattle.std.specs.Prelude.{None, Some}
 use Prim.Native.Nat.{ℕ, ◌-◌, ◌≤◌, ◌<◌}
 use mathlib.Core.Path.{◌≡◌, refl, sym, ap, ◌∙◌, subst}
 use mathlib.Core.Bool.{true}
 use mathlib.Core.List.{List, []}
-use mathlib.Core.Option.{none, some}
 use native.Mathlib.Omega.{arith}
 use lib.ListN.{length, length-append}
 use borrow.Author.Tests.{ltb-true, lt-ltb}
@@ -38,22 +38,22 @@ use Rattle.writing_laws.specs.RoundTrips.{given_of, EncodingOf, EttWriter, Gives
 use Rattle.writing_laws.proofs.TestLaws.{passes, fitted, fits, given, well_formed, header_passes, numbers_pass, largest_holds, header_read_lem, header_back}
 
 -- ---- the text
-not_nothing : (t : List ℕ) → 0 < length t → (x : text.Val) → text.Ok (record {}) x → t ≡ text.enc x
-    → (y : structure.Val) × (structure.Ok (record {}) y × (t ≡ structure.enc y))
+not_nothing : (t : List ℕ) → 0 < length t → (x : text.Val) → text.Formed (record {}) x → t ≡ text.enc x
+    → (y : structure.Val) × (structure.Formed (record {}) y × (t ≡ structure.enc y))
 unfolding text
-not_nothing t h none o e = absurd (omega (arith, ap length e))
-not_nothing t h (some y) o e = (y, (o, e))
+not_nothing t h None o e = absurd (omega (arith, ap length e))
+not_nothing t h (Some y) o e = (y, (o, e))
 
 -- one that is not empty and stands on its own is a structure
 structure_is : (t : List ℕ) → Bytes t → 0 < length t → stands (walks_all text t (length t) 0) ≡ true
-    → (y : structure.Val) × (structure.Ok (record {}) y × (t ≡ structure.enc y))
+    → (y : structure.Val) × (structure.Formed (record {}) y × (t ≡ structure.enc y))
 structure_is t z h e = let u = (own_bytes text (record {}) t z).0 (stands_yes _ e) in not_nothing t h u.0 u.1.0 u.1.1
 
-structure_full : (y : structure.Val) → structure.Ok (record {}) y → 0 < length (structure.enc y)
+structure_full : (y : structure.Val) → structure.Formed (record {}) y → 0 < length (structure.enc y)
 unfolding structure
 structure_full y o = counting_full [] 0 refl string (record {}, y) o
 
-structure_stands : (y : structure.Val) → structure.Ok (record {}) y
+structure_stands : (y : structure.Val) → structure.Formed (record {}) y
     → stands (walks_all text (structure.enc y) (length (structure.enc y)) 0) ≡ true
 unfolding text as_text
 structure_stands y o = ap stands ((own_bytes text (record {}) (structure.enc y) ((structure.law laws (record {})).bytes y o)).1 (as_text y, (o, refl))).1
@@ -66,7 +66,7 @@ same_bytes : (g : Given) (etm : ℕ) (x : structure.Val) → ett_bytes g etm (st
 unfolding ett_bytes
 same_bytes g etm x = refl
 
-smallest : (etm : ℕ) (x : structure.Val) → structure.Ok (record {}) x → 5 ≤ length (ett_format.enc (body_for etm x))
+smallest : (etm : ℕ) (x : structure.Val) → structure.Formed (record {}) x → 5 ≤ length (ett_format.enc (body_for etm x))
 smallest etm x o =
     let n = number etm_head (etm, record {}) in
     omega (arith, length-append (bytes_of 4 n) (structure.enc x), bytes_length 4 n, structure_full x o)

@@ -32,7 +32,7 @@ record Stands (rows bytes s : List ℕ) (p : ℕ) (told : Outcome EventAnswer) :
   event : EventFields
   at : ℕ
   given : as_bytes event ≡ event_given rows bytes p
-  good : event_format.Ok (record {}) event
+  good : event_format.Formed (record {}) event
   lies : Lies (event_format.enc event) s at
   answer : told ≡ resulted (event_for at event)
 

@@ -45,7 +45,7 @@ given k g b = record { header = header_given g; body = b }
 
 module _ (k : Kind) (g : Given) (b : (body_format k).Val) where
   pub well_formed : header_fits g ≡ true → numbers_fit k g ≡ true → (limits_of k).smallest ≤ length_with (length ((body_format k).enc b))
-      → length (encode (given k g b)) ≤ (limits_of k).largest + 3 → (body_format k).Ok (record {}) b → WellFormed k (given k g b)
+      → length (encode (given k g b)) ≤ (limits_of k).largest + 3 → (body_format k).Formed (record {}) b → WellFormed k (given k g b)
   unfolding numbers_fit
   well_formed e f small large o =
       let r = header_room g e in

@@ -114,7 +114,7 @@ WritesEit write =
 pub record ReadsAsRow (rows bytes s : List ℕ) (i : ℕ) : Type 0 where
   pub event : EventFields
   pub at : ℕ
-  pub good : event_format.Ok (record {}) event
+  pub good : event_format.Formed (record {}) event
   pub given : as_bytes event ≡ event_given rows bytes (8 * i)
   pub answer : eits.entry_of s i ≡ resulted (event_for at event)
   pub title : bytes_in s (title_place at event) ≡ bytes_in bytes (title_given rows (8 * i))

@@ -4,14 +4,11 @@ use mathlib.Core.Path.{ap, ◌∙◌}
 use mathlib.Core.List.{List}
 use native.Mathlib.Omega.{arith}
 use lib.ListN.{get_or, set}
-use borrow.Author.Rules.{rules}
 use Rattle.bytes_put.proofs.PutLaws.{copy_more}
 use Rattle.bytes_put.proofs.put_part.Goals as goal
 
 pub loop-i-preserved : goal.loop-i-preserved
 loop-i-preserved c =
-    let g = c.args in (
-      search rules,
-      ap (λ (o : List ℕ). set o (g.at + c.loop-i.i) (get_or g.s.now (g.p.start + c.loop-i.i) 0)) c.loop-i.invariant.1
-          ∙ copy_more g.out.now g.s.now g.at g.p.start c.loop-i.i (omega arith),
-    )
+    let g = c.args in
+    ap (λ (o : List ℕ). set o (g.at + c.loop-i.i) (get_or g.s.now (g.p.start + c.loop-i.i) 0)) c.loop-i.invariant
+    ∙ copy_more g.out.now g.s.now g.at g.p.start c.loop-i.i (omega arith)

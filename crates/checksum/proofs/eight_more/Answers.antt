@@ -6,5 +6,5 @@ use Rattle.checksum.proofs.eight_more.Goals as goal
 pub returns : goal.returns
 returns c q h =
     let a = c.args in
-    eight_more 8 q _ _ _ _ _ a.s.now a.at h c.four.ensures c.four-2.ensures c.word_72.ensures
-    c.word_40.ensures
+    eight_more 8 q _ _ _ _ _ a.s.now a.at h c.four.ensures c.four-2.ensures c.word_ahead.ensures
+    c.word_ahead-2.ensures

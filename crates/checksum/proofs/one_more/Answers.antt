@@ -8,4 +8,4 @@ pub returns : goal.returns
 unfolding register_from
 returns c q h =
     let a = c.args in
-    one_more q a.a a.x c.byte_40.result h c.byte_40.ensures
+    one_more q a.a a.x c.byte_ahead.result h c.byte_ahead.ensures

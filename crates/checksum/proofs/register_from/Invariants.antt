@@ -1,13 +1,10 @@
--- What holds in the loops of `register_from`.
-use Prim.Native.Nat.{◌-◌, ◌<◌}
-use lib.ListN.{length, take}
+-- What holds in the loop of `register_from`: `a` stands for the register after the blocks that went in, eight bits ahead.
+use Prim.Native.Nat.{◌*◌}
+use lib.ListN.{take}
 use Rattle.checksum.specs.Register.{register_from}
 use Rattle.checksum.specs.Ahead.{StandsFor}
 use Rattle.checksum.proofs.Steps.{zeros}
 use Rattle.checksum.proofs.register_from.Given as goal
 
-abbrev pub invariant-loop-i : goal.invariant-loop-i
-invariant-loop-i l = (l.i < length l.s) × StandsFor (zeros 8 (register_from l.r (take l.i l.s))) l.a
-
-abbrev pub decreases-loop-i : goal.decreases-loop-i
-decreases-loop-i l = length l.s - l.i
+abbrev pub invariant-loop-k : goal.invariant-loop-k
+invariant-loop-k l = StandsFor (zeros 8 (register_from l.r (take (16 * l.k) l.s))) l.a

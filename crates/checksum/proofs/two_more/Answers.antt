@@ -8,4 +8,4 @@ pub returns : goal.returns
 unfolding register_from
 returns c q h =
     let a = c.args in
-    two_more q a.a a.x a.y _ _ h c.byte_48.ensures c.byte_40.ensures
+    two_more q a.a a.x a.y _ _ h c.byte_ahead.ensures c.byte_ahead-2.ensures

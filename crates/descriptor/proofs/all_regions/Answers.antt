@@ -1,14 +1,14 @@
 -- `all_regions` meets its contract.
 use mathlib.Core.Path.{sym, ◌∙◌}
 use Rattle.format.proofs.FieldLaws.{skip_field}
-use Rattle.bytes_at.proofs.WalkLaws.{seq_bad, seq_to}
+use Rattle.bytes_at.proofs.WalkLaws.{exit, seq_to}
 use Rattle.descriptor.specs.Descriptors.{advisory}
 use Rattle.descriptor.proofs.all_regions.Goals as goal
 
-pub returns-in_default : goal.returns-in_default
+pub returns-in_err-b : goal.returns-in_err-b
 unfolding advisory
-returns-in_default c = seq_bad _ (c.skip-w.ensures ∙ sym (skip_field 1 _ _)) c.in_default.is
+returns-in_err-b c = exit _ c.from_residual.ensures.1 (c.skip.ensures ∙ sym (skip_field 1 _ _)) c.in_err-b.was
 
 pub returns : goal.returns
 unfolding advisory
-returns c = seq_to _ (c.skip-w.ensures ∙ sym (skip_field 1 _ _)) c.in-To.is (rw c.back.ensures.0 at c.regions.ensures)
+returns c = seq_to _ (c.skip.ensures ∙ sym (skip_field 1 _ _)) c.in_ok-b.was (rw c.back.ensures.0 at c.regions.ensures)

@@ -1,17 +1,13 @@
 -- `spot_past` meets its contract.
-use mathlib.Core.Path.{sym, ◌∙◌}
+use borrow.Author.Rules.{rules}
+use mathlib.Core.Path.{sym, ap, ◌∙◌}
 use Rattle.bytes_at.specs.Walks.{standing}
-use Rattle.entry.proofs.EntryLaws.{entries_inside}
+use Rattle.entry.proofs.EntryLaws.{entries_inside, placed}
 use Rattle.entry.proofs.spot_past.Goals as goal
 
-pub returns-in-To : goal.returns-in-To
-unfolding standing
-returns-in-To c =
-    let a = c.args in (
-      rw (← c.past.ensures, c.in-To.is),
-      entries_inside a.entry a.s.now a.i _ c.requires (sym c.past.ensures ∙ c.in-To.is),
-    )
-
-pub returns-in-Bad : goal.returns-in-Bad
-unfolding standing
-returns-in-Bad c = (rw (← c.past.ensures, c.in-Bad.is), record {})
+pub returns : goal.returns
+returns c =
+    let a = c.args in
+    let e = c.past.ensures in
+    let p = placed a.s.now _ _ _ (λ x k p. search rules) (λ b q. entries_inside a.entry a.s.now a.i b c.requires (sym e ∙ q)) c.map_err.ensures.cases in
+    (p.0 ∙ ap standing e, p.1)

@@ -1,11 +1,10 @@
 -- Laws of lists of bytes that stand in a section, and of steps over a number of bytes.
-use Rattle.std.specs.Prelude.{ℕ, zero, suc, ◌+◌, ◌-◌, ◌*◌, ◌/◌, ◌≤◌, ◌<◌, ◌≡◌, refl, ◌⊎◌, List, [], ◌∷◌, ◌++◌, Bool, true, false, length, take, drop, leb}
+use Rattle.std.specs.Prelude.{ℕ, zero, suc, ◌+◌, ◌-◌, ◌*◌, ◌/◌, ◌≤◌, ◌<◌, ◌≡◌, refl, ◌⊎◌, List, [], ◌∷◌, ◌++◌, Bool, true, false, length, take, drop, leb, Ok, Err}
 use Rattle.std.proofs.Math.Path.{sym, ap}
 use Rattle.std.proofs.Common.{◌∙◌, inl, inr, ⊎_elim, eq-zero-or-pos, length-append, length-take, length-drop, take-add, drop-drop, length-take-le, take_at, drop_at, get_or-take, get_or-drop, leb-true}
 use Rattle.std.proofs.lemmas.List.{append_cancel_left}
 use native.Mathlib.Omega.{arith}
 use Rattle.std.proofs.Math.ListN.{get_or-eq_default}
-use Rattle.bytes_at.specs.declared.Walk.TheVariants.{To, Bad}
 use Rattle.logic.specs.Choices.{pick}
 use Rattle.bytes_at.specs.Fields.{byte_at}
 use Rattle.bytes_at.specs.Walks.{skip_to, bits_to}
@@ -72,15 +71,15 @@ pick_inv true a b x e = inl (refl, e)
 pick_inv false a b x e = inr (refl, e)
 
 -- a head that is passed begins within its container
-pub bits_begin : (n : ℕ) (ns : List ℕ) (p end b : ℕ) → bits_to (n ∷ ns) p end ≡ To b
-    → (p + n ≤ 8 * end) × (bits_to ns (p + n) end ≡ To b)
+pub bits_begin : (n : ℕ) (ns : List ℕ) (p end b : ℕ) → bits_to (n ∷ ns) p end ≡ Ok b
+    → (p + n ≤ 8 * end) × (bits_to ns (p + n) end ≡ Ok b)
 unfolding bits_to
 bits_begin n ns p end b e = ⊎_elim (λ t. (leb-true (p + n) (8 * end) t.0, t.1)) (λ t. never (p / 8) b t.1)
-    (pick_inv (leb (p + n) (8 * end)) (bits_to ns (p + n) end) (Bad (p / 8)) (To b) e)
+    (pick_inv (leb (p + n) (8 * end)) (bits_to ns (p + n) end) (Err (p / 8)) (Ok b) e)
 
 -- ---- bytes that are taken as they are
-module _ (k : ℕ) (W : Walker) (fit : (s : List ℕ) (end at : ℕ) → at + k ≤ end → W s end at ≡ To (at + k))
-    (took : (s : List ℕ) (end at e : ℕ) → at ≤ end → W s end at ≡ To e → (e ≡ at + k) × (e ≤ end)) where
+module _ (k : ℕ) (W : Walker) (fit : (s : List ℕ) (end at : ℕ) → at + k ≤ end → W s end at ≡ Ok (at + k))
+    (took : (s : List ℕ) (end at e : ℕ) → at ≤ end → W s end at ≡ Ok e → (e ≡ at + k) × (e ≤ end)) where
   pub bytes_law : Lawful {X = List ℕ} W (λ x. (length x ≡ k) × Bytes x) (λ x. x)
   bytes_law = record {
     sound = λ s end at x o l h. rw o.0 (fit s end at (omega arith));

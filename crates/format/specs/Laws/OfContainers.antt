@@ -1,8 +1,6 @@
 -- Laws of formats that take their whole container, and of containers whose length is told.
-use Rattle.std.specs.Prelude.{ℕ, ◌+◌, ◌-◌, ◌≤◌, ◌≡◌, refl, ◌⊎◌, List, ◌++◌, Bool, true, false, length, take, drop, eqb}
+use Rattle.std.specs.Prelude.{ℕ, ◌+◌, ◌-◌, ◌≤◌, ◌≡◌, refl, ◌⊎◌, List, ◌++◌, Bool, true, false, length, take, drop, eqb, Option, Ok}
 use Rattle.std.proofs.Common.{sym, ap, ◌∙◌, inl, inr, ⊎_elim, arith, length-append}
-use Rattle.std.proofs.Math.Option.{Option}
-use Rattle.bytes_at.specs.declared.Walk.TheVariants.{To}
 use Rattle.logic.specs.Choices.{pick}
 use Rattle.bytes_at.specs.Walks.{skip_to, then, ends}
 use Rattle.bytes_at.proofs.WalkLaws.{to_is, then_to, then_inv, skipped, skip_fits}
@@ -11,17 +9,17 @@ use Rattle.format.specs.Repeats.{Bytes, OkOpt, enc_opt, OkSum, enc_sum}
 use Rattle.format.specs.Laws.OfBytes.{pick_inv, same_front, after, bytes_append, lies_at, lies_join, lies_split, part_bytes, part_length, part_lies}
 
 -- ---- n bytes that a format fills
-module _ {X : Type 0} {F : Walker} {Ok : X → Type 0} {enc : X → List ℕ} (back n : ℕ) (f : Fills F Ok enc) where
-  pub filled_law : Lawful {X = X} (λ s end at. then (skip_to back at n end) (λ e. F s e at)) (λ x. (length (enc x) ≡ n) × Ok x) enc
+module _ {X : Type 0} {F : Walker} {Formed : X → Type 0} {enc : X → List ℕ} (back n : ℕ) (f : Fills F Formed enc) where
+  pub filled_law : Lawful {X = X} (λ s end at. then (skip_to back at n end) (λ e. F s e at)) (λ x. (length (enc x) ≡ n) × Formed x) enc
   filled_law = record {
     sound = λ s end at x o l h.
         then_to _ _ (at + n) _ (sym (skip_fits back at n end (omega arith)))
-        (f.sound s (at + n) at x o.1 l (omega arith) ∙ ap To (omega arith));
+        (f.sound s (at + n) at x o.1 l (omega arith) ∙ ap Ok (omega arith));
     complete = λ s end at e h m z w.
         let p = then_inv _ _ e w in
         let t = skipped back at n end p.0 p.1.0 in
         let q = f.whole s p.0 at e p.1.1 in
-        let u = f.complete s p.0 at (omega arith) (omega arith) z (p.1.1 ∙ ap To q) in
+        let u = f.complete s p.0 at (omega arith) (omega arith) z (p.1.1 ∙ ap Ok q) in
         (u.0, ((omega arith, u.1.0), (u.1.1.0, omega arith)));
     unique = λ x y p q o r e. f.unique x y o.1 r.1 (same_front (enc x) (enc y) p q (o.0 ∙ sym r.0) e).0;
     within = λ s end at e h w.
@@ -33,12 +31,12 @@ module _ {X : Type 0} {F : Walker} {Ok : X → Type 0} {enc : X → List ℕ} (b
   }
 
 -- ---- a format that tells where it ends, and nothing after it: what is to hold (proofs/ContainerLaws.antt)
-module _ {X : Type 0} {A : Walker} {Ok : X → Type 0} {enc : X → List ℕ} (a : Lawful A Ok enc) where
+module _ {X : Type 0} {A : Walker} {Formed : X → Type 0} {enc : X → List ℕ} (a : Lawful A Formed enc) where
   abbrev pub ExactWhole : Type 0
-  ExactWhole = (s : List ℕ) (end at e : ℕ) → then (A s end at) (ends end) ≡ To e → (A s end at ≡ To end) × (e ≡ end)
+  ExactWhole = (s : List ℕ) (end at e : ℕ) → then (A s end at) (ends end) ≡ Ok e → (A s end at ≡ Ok end) × (e ≡ end)
 
   abbrev pub ExactLaw : Type 0
-  ExactLaw = Fills {X = X} (λ s end at. then (A s end at) (ends end)) Ok enc
+  ExactLaw = Fills {X = X} (λ s end at. then (A s end at) (ends end)) Formed enc
 
 -- ---- a format that tells where it ends, and one that takes the rest of the container
 module _ {X Y : Type 0} {A B : Walker} {OkA : X → Type 0} {OkB : Y → Type 0} {encA : X → List ℕ} {encB : Y → List ℕ}
@@ -74,9 +72,9 @@ module _ {X Y : Type 0} {A B : Walker} {OkA : X → Type 0} {OkB : Y → Type 0}
   }
 
 -- ---- the same bytes and walk, and other values that stand for the old ones one to one
-module _ {X Y : Type 0} {F : Walker} {Ok : X → Type 0} {enc : X → List ℕ} (f : Fills F Ok enc) (to : Y → X) (from : X → Y)
+module _ {X Y : Type 0} {F : Walker} {Formed : X → Type 0} {enc : X → List ℕ} (f : Fills F Formed enc) (to : Y → X) (from : X → Y)
     (a : (x : X) → to (from x) ≡ x) (b : (y : Y) → from (to y) ≡ y) where
-  pub under_law : Fills {X = Y} F (λ y. Ok (to y)) (λ y. enc (to y))
+  pub under_law : Fills {X = Y} F (λ y. Formed (to y)) (λ y. enc (to y))
   under_law = record {
     sound = λ s end at y o l h. f.sound s end at (to y) o l h;
     complete = λ s end at h m z w.
@@ -88,7 +86,7 @@ module _ {X Y : Type 0} {F : Walker} {Ok : X → Type 0} {enc : X → List ℕ} 
   }
 
 -- ---- whatever bytes there are
-pub any_law : Fills {X = List ℕ} (λ s end at. To end) Bytes (λ x. x)
+pub any_law : Fills {X = List ℕ} (λ s end at. Ok end) Bytes (λ x. x)
 any_law = record {
   sound = λ s end at x o l h. refl;
   complete = λ s end at h m z w.
@@ -100,9 +98,9 @@ any_law = record {
 }
 
 -- ---- nothing, or a format none of whose values is empty: what is to hold (proofs/ContainerLaws.antt)
-module _ {X : Type 0} {F : Walker} {Ok : X → Type 0} {enc : X → List ℕ} (f : Fills F Ok enc) (full : NotEmpty Ok enc) where
+module _ {X : Type 0} {F : Walker} {Formed : X → Type 0} {enc : X → List ℕ} (f : Fills F Formed enc) (full : NotEmpty Formed enc) where
   abbrev pub OptLaw : Type 0
-  OptLaw = Fills {X = Option X} (λ s end at. pick (eqb at end) (To at) (F s end at)) (OkOpt Ok) (enc_opt enc)
+  OptLaw = Fills {X = Option X} (λ s end at. pick (eqb at end) (Ok at) (F s end at)) (OkOpt Formed) (enc_opt enc)
 
 -- ---- one format or another, by a test on what is told
 differ : {A : Type 0} {t : Bool} → t ≡ true → t ≡ false → A
@@ -111,16 +109,16 @@ differ e f = let z : ◌≡◌ {A = ℕ} 0 1 = cc in absurd (omega arith)
 module _ {X Y : Type 0} {A B : Walker} {OkA : X → Type 0} {OkB : Y → Type 0} {encA : X → List ℕ} {encB : Y → List ℕ}
     (t : Bool) (a : Fills A OkA encA) (b : Fills B OkB encB) where
   sum_sound : (s : List ℕ) (end at : ℕ) (x : X ⊎ Y) → OkSum t OkA OkB x → Lies (enc_sum encA encB x) s at
-      → end ≡ at + length (enc_sum encA encB x) → pick t (A s end at) (B s end at) ≡ To end
+      → end ≡ at + length (enc_sum encA encB x) → pick t (A s end at) (B s end at) ≡ Ok end
   sum_sound s end at (inl x) o l h = rw o.0 (a.sound s end at x o.1 l h)
   sum_sound s end at (inr x) o l h = rw o.0 (b.sound s end at x o.1 l h)
 
-  sum_complete : (s : List ℕ) (end at : ℕ) → at ≤ end → end ≤ length s → Bytes s → pick t (A s end at) (B s end at) ≡ To end
+  sum_complete : (s : List ℕ) (end at : ℕ) → at ≤ end → end ≤ length s → Bytes s → pick t (A s end at) (B s end at) ≡ Ok end
       → (x : X ⊎ Y) × (OkSum t OkA OkB x × (Lies (enc_sum encA encB x) s at × (end ≡ at + length (enc_sum encA encB x))))
   sum_complete s end at h m z w = ⊎_elim
       (λ g. let u = a.complete s end at h m z g.1 in (inl u.0, ((g.0, u.1.0), u.1.1)))
       (λ g. let u = b.complete s end at h m z g.1 in (inr u.0, ((g.0, u.1.0), u.1.1)))
-      (pick_inv t (A s end at) (B s end at) (To end) w)
+      (pick_inv t (A s end at) (B s end at) (Ok end) w)
 
   sum_unique : (x y : X ⊎ Y) → OkSum t OkA OkB x → OkSum t OkA OkB y → enc_sum encA encB x ≡ enc_sum encA encB y → x ≡ y
   sum_unique (inl x) (inl y) o r e = ap inl (a.unique x y o.1 r.1 e)
@@ -128,9 +126,9 @@ module _ {X Y : Type 0} {A B : Walker} {OkA : X → Type 0} {OkB : Y → Type 0}
   sum_unique (inr x) (inl y) o r e = differ r.0 o.0
   sum_unique (inr x) (inr y) o r e = ap inr (b.unique x y o.1 r.1 e)
 
-  sum_whole : (s : List ℕ) (end at e : ℕ) → pick t (A s end at) (B s end at) ≡ To e → e ≡ end
+  sum_whole : (s : List ℕ) (end at e : ℕ) → pick t (A s end at) (B s end at) ≡ Ok e → e ≡ end
   sum_whole s end at e w = ⊎_elim (λ g. a.whole s end at e g.1) (λ g. b.whole s end at e g.1)
-      (pick_inv t (A s end at) (B s end at) (To e) w)
+      (pick_inv t (A s end at) (B s end at) (Ok e) w)
 
   sum_bytes : (x : X ⊎ Y) → OkSum t OkA OkB x → Bytes (enc_sum encA encB x)
   sum_bytes (inl x) o = a.bytes x o.1

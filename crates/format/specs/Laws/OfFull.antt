@@ -9,7 +9,7 @@ use Rattle.format.specs.Laws.OfTold.{last_tells, tag_tells}
 use Rattle.format.specs.Told.{told, counting, tagged}
 
 pub told_full : {C : Type 0} (fs : List Field) (n k : ℕ) (whole : width fs + n ≡ 8 * k) (r : Reader k C) (c : Vals fs → ℕ → C) (tells : Tells fs n k r c)
-    (f : Format C) (tally : f.Val → ℕ) (is : (v : Vals fs) (m : ℕ) (x : f.Val) → f.Ok (c v m) x → tally x ≡ m) → 0 < k
+    (f : Format C) (tally : f.Val → ℕ) (is : (v : Vals fs) (m : ℕ) (x : f.Val) → f.Formed (c v m) x → tally x ≡ m) → 0 < k
     → Full (told fs n k whole r c tells f tally is)
 told_full fs n k whole r c tells f tally is h x o =
     omega (arith, length-append (head_bytes fs n k x.0 (tally x.1)) (f.enc x.1), bytes_length k (number fs x.0 * 2 ^ n + tally x.1))

@@ -1,7 +1,6 @@
 -- Laws of one format after another, and of other values for the same bytes.
-use Rattle.std.specs.Prelude.{ℕ, ◌+◌, ◌≡◌, List, ◌++◌, length}
+use Rattle.std.specs.Prelude.{ℕ, ◌+◌, ◌≡◌, List, ◌++◌, length, Ok}
 use Rattle.std.proofs.Common.{sym, ap, ◌∙◌, append_assoc, arith, length-append}
-use Rattle.bytes_at.specs.declared.Walk.TheVariants.{To}
 use Rattle.bytes_at.specs.Walks.{then}
 use Rattle.bytes_at.proofs.WalkLaws.{then_to, then_inv}
 use Rattle.format.specs.Lawful.{Walker, Lawful}
@@ -21,7 +20,7 @@ module _ {X Y : Type 0} {A B : Walker} {OkA : X → Type 0} {OkB : Y → Type 0}
         let i = lies_split (encA x.0) (encB x.1) s at l in
         let u = a.sound s end at x.0 o.0 i.0 (omega arith) in
         let v = b.sound s end (at + length (encA x.0)) x.1 o.1 i.1 (omega arith) in
-        then_to _ _ _ _ u (v ∙ ap To (omega arith));
+        then_to _ _ _ _ u (v ∙ ap Ok (omega arith));
     complete = λ s end at e h m z w.
         let p = then_inv _ _ e w in
         let i = a.within s end at p.0 h p.1.0 in
@@ -50,8 +49,8 @@ module _ {X Y : Type 0} {A B : Walker} {OkA : X → Type 0} {OkB : Y → Type 0}
   }
 
 -- ---- the same bytes, and other values: `to` gives the value that a new one stands for
-module _ {X Y : Type 0} {W : Walker} {Ok : X → Type 0} {enc : X → List ℕ} {OkY : Y → Type 0} (a : Lawful W Ok enc) (to : Y → X)
-    (good : (y : Y) → OkY y → Ok (to y)) (onto : (x : X) → Ok x → (y : Y) × (OkY y × (to y ≡ x)))
+module _ {X Y : Type 0} {W : Walker} {Formed : X → Type 0} {enc : X → List ℕ} {OkY : Y → Type 0} (a : Lawful W Formed enc) (to : Y → X)
+    (good : (y : Y) → OkY y → Formed (to y)) (onto : (x : X) → Formed x → (y : Y) × (OkY y × (to y ≡ x)))
     (inj : (y z : Y) → OkY y → OkY z → to y ≡ to z → y ≡ z) where
   pub via_law : Lawful {X = Y} W OkY (λ y. enc (to y))
   via_law = record {

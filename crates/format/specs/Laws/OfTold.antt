@@ -47,8 +47,8 @@ module _ (fs : List Field) (n k : ℕ) (whole : width fs + n ≡ 8 * k) where
 
 -- ---- the head and what it tells of
 module _ {C : Type 0} (fs : List Field) (n k : ℕ) (whole : width fs + n ≡ 8 * k) (r : Reader k C) (c : Vals fs → ℕ → C)
-    (tells : Tells fs n k r c) (f : Format C) (tally : f.Val → ℕ) (is : (v : Vals fs) (m : ℕ) (x : f.Val) → f.Ok (c v m) x → tally x ≡ m) where
-  pub told_good : (v : Vals fs) (x : f.Val) → OkTold fs n c f tally (v, x) → f.Ok (r.read (head_bytes fs n k v (tally x)) k) x
+    (tells : Tells fs n k r c) (f : Format C) (tally : f.Val → ℕ) (is : (v : Vals fs) (m : ℕ) (x : f.Val) → f.Formed (c v m) x → tally x ≡ m) where
+  pub told_good : (v : Vals fs) (x : f.Val) → OkTold fs n c f tally (v, x) → f.Formed (r.read (head_bytes fs n k v (tally x)) k) x
   told_good v x o =
       let b = head_bytes fs n k v (tally x) in
       let g = head_here fs n k whole v (tally x) o.0 o.1.0 in
@@ -56,15 +56,15 @@ module _ {C : Type 0} (fs : List Field) (n k : ℕ) (whole : width fs + n ≡ 8 
       let q : r.read b k ≡ c v (tally x) = e ∙ (λ i. c (g.0 i) (g.1 i)) in
       rw q o.1.1
 
-  pub told_onto : (h : List ℕ) (x : f.Val) → length h ≡ k → Bytes h → f.Ok (r.read h k) x
+  pub told_onto : (h : List ℕ) (x : f.Val) → length h ≡ k → Bytes h → f.Formed (r.read h k) x
       → OkTold fs n c f tally (vals_at fs h 0 0, x) × (head_bytes fs n k (vals_at fs h 0 0) (tally x) ≡ h)
   told_onto h x l z o =
       let v = vals_at fs h 0 0 in
       let m = bits_at h (0 + width fs) n in
-      let o1 : f.Ok (c v m) x = rw (tells h l z) at o in
+      let o1 : f.Formed (c v m) x = rw (tells h l z) at o in
       let q = is v m x o1 in
       let b : tally x < 2 ^ n = rw q (bits_lt h (0 + width fs) n) in
-      let o2 : f.Ok (c v (tally x)) x = rw q o1 in
+      let o2 : f.Formed (c v (tally x)) x = rw q o1 in
       ((vals_fit fs h 0 0, (b, o2)), ap (head_bytes fs n k v) q ∙ head_back fs n k whole h l z)
 
   pub told_once : (u v : Vals fs) (x y : f.Val) → OkTold fs n c f tally (u, x) → OkTold fs n c f tally (v, y)

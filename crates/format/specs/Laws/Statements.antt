@@ -14,18 +14,18 @@ pub record Laws : Type 1 where
   pub fields_law : (ns : List ℕ) (k : ℕ) → total ns ≡ 8 * k
       → Lawful {X = List ℕ} (λ s end at. fields_to ns at end) (λ x. (length x ≡ k) × Bytes x) (λ x. x)
   -- a head of k bytes, and a body of which the head tells c; the walk reads c from behind the head
-  pub head_law : {C X : Type 0} {B : C → Walker} {Ok : C → X → Type 0} {enc : X → List ℕ} (ns : List ℕ) (k : ℕ) (whole : total ns ≡ 8 * k)
+  pub head_law : {C X : Type 0} {B : C → Walker} {Formed : C → X → Type 0} {enc : X → List ℕ} (ns : List ℕ) (k : ℕ) (whole : total ns ≡ 8 * k)
       (c : List ℕ → ℕ → C) (same : (s : List ℕ) (at : ℕ) (h : List ℕ) → length h ≡ k → Lies h s at → c s (at + k) ≡ c h k)
-      (body : (n : C) → Lawful (B n) (Ok n) enc)
+      (body : (n : C) → Lawful (B n) (Formed n) enc)
       → Lawful {X = List ℕ × X} (λ s end at. then (fields_to ns at end) (λ b. B (c s b) s end b))
-      (λ x. ((length x.0 ≡ k) × Bytes x.0) × Ok (c x.0 k) x.1) (λ x. x.0 ++ enc x.1)
+      (λ x. ((length x.0 ≡ k) × Bytes x.0) × Formed (c x.0 k) x.1) (λ x. x.0 ++ enc x.1)
   -- the steps past fields have their bits
   pub steps_width : (fs : List Field) (n : ℕ) → total (steps_after fs n) ≡ n + width fs
   -- a format that tells where it ends, and nothing after it
-  pub exact_law : {X : Type 0} {A : Walker} {Ok : X → Type 0} {enc : X → List ℕ} (a : Lawful A Ok enc) → ExactLaw a
+  pub exact_law : {X : Type 0} {A : Walker} {Formed : X → Type 0} {enc : X → List ℕ} (a : Lawful A Formed enc) → ExactLaw a
   -- nothing, or a format none of whose values is empty
-  pub opt_law : {X : Type 0} {F : Walker} {Ok : X → Type 0} {enc : X → List ℕ} (f : Fills F Ok enc) (full : NotEmpty Ok enc) → OptLaw f full
+  pub opt_law : {X : Type 0} {F : Walker} {Formed : X → Type 0} {enc : X → List ℕ} (f : Fills F Formed enc) (full : NotEmpty Formed enc) → OptLaw f full
   -- a format whose count must not be 0
-  pub some_law : {X : Type 0} {W : Walker} {Ok : X → Type 0} {enc : X → List ℕ} (back n : ℕ) (a : Lawful W Ok enc) → SomeLaw back n a
+  pub some_law : {X : Type 0} {W : Walker} {Formed : X → Type 0} {enc : X → List ℕ} (back n : ℕ) (a : Lawful W Formed enc) → SomeLaw back n a
   -- a format until the container's end
-  pub list_law : {X : Type 0} {P : Walker} {Ok : X → Type 0} {enc : X → List ℕ} (a : Lawful P Ok enc) (full : NotEmpty Ok enc) → ListLaw a full
+  pub list_law : {X : Type 0} {P : Walker} {Formed : X → Type 0} {enc : X → List ℕ} (a : Lawful P Formed enc) (full : NotEmpty Formed enc) → ListLaw a full

@@ -1,23 +1,28 @@
 -- `is_whole` meets its contract.
-use mathlib.Core.Path.{refl, sym, ◌∙◌}
-use native.Mathlib.Omega.{arith}
-use Rattle.logic.proofs.ChoiceLaws.{lt_yes, lt_no, eq_no}
+use mathlib.Core.Path.{sym, ap, ◌∙◌}
+use Prim.Native.Nat.{ℕ}
+use lib.Dec.{eqb}
+use Rattle.std.proofs.lemmas.Bool.{false≢true, lt-leb}
+use Rattle.logic.proofs.ChoiceLaws.{lt_yes, lt_no, test_yes, test_no}
 use Rattle.record.specs.Records.{whole}
-use Rattle.record.proofs.RecordLaws.{cut_off, all_there}
+use Rattle.record.proofs.RecordLaws.{long_enough}
 use Rattle.record.proofs.is_whole.Goals as goal
+use Rattle.record.proofs.is_whole.Goals.{then-bytes-ge-HEAD, else-bytes-ge-HEAD}
 
-pub returns-then-bytes-lt-HEAD : goal.returns-then-bytes-lt-HEAD
+pub returns-then-word-eq-MARK : goal.returns-then-word-eq-MARK
 unfolding whole
-returns-then-bytes-lt-HEAD c = lt_yes _ _ _ _ c.if-bytes-lt-HEAD.true refl
+returns-then-word-eq-MARK c =
+    elim c.if-bytes-ge-HEAD.branch [
+      | then-bytes-ge-HEAD w ↦ lt_no _ _ _ _ w.if-bytes-ge-HEAD.true
+          (test_yes _ _ _ _ (ap (λ (m : ℕ). eqb m 0xA55A) (sym w.word.ensures.0) ∙ sym w.value-is ∙ c.if-word-eq-MARK.true) (long_enough _ c.length_of.ensures.0))
+      | else-bytes-ge-HEAD w ↦ absurd (false≢true (sym (lt-leb _ _ w.if-bytes-ge-HEAD.false) ∙ sym w.value-is ∙ c.if-word-eq-MARK.true))
+    ]
 
-pub returns-then-word-ne42330 : goal.returns-then-word-ne42330
+pub returns-else-word-eq-MARK : goal.returns-else-word-eq-MARK
 unfolding whole
-returns-then-word-ne42330 c = lt_no _ _ _ _ c.if-bytes-lt-HEAD.false (eq_no _ _ _ _ (λ e. c.if-word-ne42330.true (c.word.ensures.0 ∙ e)) refl)
-
-pub returns-then-bytes-word : goal.returns-then-bytes-word
-returns-then-bytes-word c =
-    cut_off _ (omega (arith, c.if-bytes-lt-HEAD.false)) (sym c.word.ensures.0 ∙ c.if-word-ne42330.false) (omega (arith, c.word-2.ensures.0))
-
-pub returns : goal.returns
-returns c =
-    all_there _ (omega (arith, c.if-bytes-lt-HEAD.false)) (sym c.word.ensures.0 ∙ c.if-word-ne42330.false) (omega (arith, c.word-2.ensures.0))
+returns-else-word-eq-MARK c =
+    elim c.if-bytes-ge-HEAD.branch [
+      | then-bytes-ge-HEAD w ↦ lt_no _ _ _ _ w.if-bytes-ge-HEAD.true
+          (test_no _ _ _ _ (ap (λ (m : ℕ). eqb m 0xA55A) (sym w.word.ensures.0) ∙ sym w.value-is ∙ c.if-word-eq-MARK.false) c.if-word-eq-MARK.false)
+      | else-bytes-ge-HEAD w ↦ lt_yes _ _ _ _ w.if-bytes-ge-HEAD.false c.if-word-eq-MARK.false
+    ]

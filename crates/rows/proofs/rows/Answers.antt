@@ -1,25 +1,25 @@
 -- `rows` meets its contract: the judge first, then the rows.
 use mathlib.Core.Path.{sym, ap, ◌∙◌}
-use Rattle.refusal.specs.Outcomes.{after}
-use Rattle.section.specs.Answers.{head_outcome}
+use Rattle.refusal.specs.Outcomes.{outcome, after}
+use Rattle.refusal.proofs.OutcomeLaws.{handed_on}
 use Rattle.rows.specs.Rows.{rows_of, with_rows}
 use Rattle.rows.proofs.RowsLaws.{judged_rows}
 use Rattle.rows.proofs.rows.Goals as goal
 
 pub rows_in-requires : goal.rows_in-requires
 rows_in-requires c =
-    let e = sym (rw c.kind_for.ensures at c.judge_kind.ensures) ∙ ap head_outcome c.in-Passes.is in
+    let e = sym (rw c.table_of.ensures at c.judge_kind.ensures) ∙ ap outcome c.in_ok-judge_kind.was in
     judged_rows _ _ _ e
 
-pub returns-in-Refused : goal.returns-in-Refused
-unfolding rows_of after with_rows
-returns-in-Refused c =
-    let e = sym (rw c.kind_for.ensures at c.judge_kind.ensures) ∙ ap head_outcome c.in-Refused.is in
-    record { told = rw e; put = rw e }
+pub returns-in_err-judge_kind : goal.returns-in_err-judge_kind
+unfolding rows_of with_rows after
+returns-in_err-judge_kind c =
+    let e = sym (rw c.table_of.ensures at c.judge_kind.ensures) ∙ ap outcome c.in_err-judge_kind.was in
+    record { told = rw e (ap outcome (handed_on c.from_residual.ensures.1)); put = rw e }
 
-pub returns-in-Passes : goal.returns-in-Passes
+pub returns : goal.returns
 unfolding rows_of after
-returns-in-Passes c =
-    let e = sym (rw c.kind_for.ensures at c.judge_kind.ensures) ∙ ap head_outcome c.in-Passes.is in
+returns c =
+    let e = sym (rw c.table_of.ensures at c.judge_kind.ensures) ∙ ap outcome c.in_ok-judge_kind.was in
     let r = c.rows_in.ensures in
     record { told = rw e r.told; put = rw e r.put }

@@ -21,7 +21,7 @@ returns-then-v-ge128 c =
     let v = child_at (table_of a.titles) a.prior q.node root.result c.bit_at.result (get_or bs q.i 0) c.byte_of-v.result
     root.ensures.0 c.bit_at.ensures.0 c.byte_of-v.ensures.0 in
     record {
-      reads = q.invariant.2 ∙ walk_leaf u bs q.node q.i c.byte_of-v.result v h
+      reads = q.invariant.1 ∙ walk_leaf u bs q.node q.i c.byte_of-v.result v h
           c.if-v-ge128.true;
       onward = omega arith;
       inside = omega arith;
@@ -37,10 +37,10 @@ loop-i-preserved c =
     let root = c.root_of-base in
     let v = child_at (table_of a.titles) a.prior q.node root.result c.bit_at.result (get_or bs q.i 0) c.byte_of-v.result
     root.ensures.0 c.bit_at.ensures.0 c.byte_of-v.ensures.0 in
-    (c.if-v-ge128.false, omega arith, q.invariant.2 ∙ walk_node u bs q.node q.i c.byte_of-v.result v c.if-v-ge128.false)
+    (c.if-v-ge128.false, q.invariant.1 ∙ walk_node u bs q.node q.i c.byte_of-v.result v c.if-v-ge128.false)
 
 pub returns : goal.returns
 returns c =
     let q = c.loop-i in
     let a = c.args in
-    q.invariant.2 ∙ walk_early (tree (table_of a.titles) a.prior) (all_bits a.s.now) q.node q.i (omega (arith, length_bits a.s.now))
+    q.invariant.1 ∙ walk_early (tree (table_of a.titles) a.prior) (all_bits a.s.now) q.node q.i (omega (arith, length_bits a.s.now))

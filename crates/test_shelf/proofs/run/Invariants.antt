@@ -1,9 +1,6 @@
--- `run` ends: the number of calls rises to the largest number at most.
-use Rattle.std.proofs.Common.{◌-◌, ◌≡◌, length}
+-- `run` keeps the length of what it is lent.
+use Rattle.std.proofs.Common.{◌≡◌, length}
 use Rattle.test_shelf.proofs.run.Given as goal
 
 abbrev pub invariant-loop-n : goal.invariant-loop-n
 invariant-loop-n g l = length l.area ≡ length l.initial.area
-
-abbrev pub decreases-loop-n : goal.decreases-loop-n
-decreases-loop-n g l = 18446744073709551615 - l.n

@@ -2,21 +2,21 @@
 use mathlib.Core.Path.{◌∙◌}
 use native.Mathlib.Omega.{arith}
 use Rattle.titles.proofs.ReadLaws.{count_told_lem}
-use Rattle.titles.proofs.TitlesLaws.{count_room, units_few, count_step, count_done}
+use Rattle.titles.proofs.TitlesLaws.{count_first, count_room, units_few, count_step, count_done}
 use Rattle.titles.proofs.count_units.Goals as goal
+
+pub loop-init : goal.loop-init
+loop-init c = count_first c.requires (omega arith)
 
 pub overflow_add-n : goal.overflow_add-n
 overflow_add-n c =
-    let l = c.loop-left.invariant in
-    let p = c.requires.0 in
-    omega (arith, count_room l c.loop-left-test.true, units_few _ _ _ p, p.small, c.units_of-n.ensures, count_told_lem c.read_title.ensures)
+    let p = c.requires in
+    omega (arith, count_room c.loop.invariant (omega arith), units_few _ _ _ p, p.small, c.units_of-n.ensures, count_told_lem c.read_title.ensures c.read_title.array_long)
 
-pub loop-left-preserved : goal.loop-left-preserved
-loop-left-preserved c =
-    let r = c.read_title.ensures in
-    count_step c.loop-left.invariant _ _ _ c.loop-left-test.true (c.units_of-n.ensures ∙ count_told_lem r) c.event_end-a.ensures r.long
+pub loop-preserved : goal.loop-preserved
+loop-preserved c =
+    count_step c.loop.invariant _ _ _ (omega arith) (omega arith) (c.units_of-n.ensures ∙ count_told_lem c.read_title.ensures c.read_title.array_long) c.event_end-a.ensures
 
 pub returns : goal.returns
 returns c =
-    let l = c.loop-left.invariant in
-    record { counts = count_done l (omega (arith, c.loop-left-test.false)); keeps = l.long }
+    count_done c.loop.invariant (omega arith)

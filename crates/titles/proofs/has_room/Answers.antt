@@ -7,5 +7,4 @@ use Rattle.titles.proofs.has_room.Goals as goal
 
 pub returns-then-s-room : goal.returns-then-s-room
 returns-then-s-room c =
-    let p = c.requires in
-    record { enough = λ q. omega (arith, units_few _ _ _ p.0, c.if-s-room.true); short = λ q. let z : ◌≡◌ {A = ℕ} 0 1 = cc in absurd (omega arith); keeps = p.1 }
+    record { enough = λ q. omega (arith, units_few _ _ _ c.requires, c.if-s-room.true); short = λ q. let z : ◌≡◌ {A = ℕ} 0 1 = cc in absurd (omega arith) }

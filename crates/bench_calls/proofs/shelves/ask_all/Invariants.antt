@@ -1,9 +1,6 @@
--- What holds in the loops of `ask_all`.
-use Prim.Native.Nat.{◌-◌, ◌≤◌}
+-- What holds in the loop of `ask_all`: the count does not fall.
+use Rattle.std.proofs.Common.{◌≤◌}
 use Rattle.bench_calls.proofs.shelves.ask_all.Given as goal
 
 abbrev pub invariant-loop-w : goal.invariant-loop-w
-invariant-loop-w l = (l.w ≤ l.watches) × (l.initial.u.good ≤ l.u.good)
-
-abbrev pub decreases-loop-w : goal.decreases-loop-w
-decreases-loop-w l = l.watches - l.w
+invariant-loop-w l = l.initial.u.good ≤ l.u.good

@@ -1,10 +1,6 @@
--- What holds in the loops of `bench_statuses`.
-use Prim.Native.Nat.{◌-◌, ◌≤◌}
-use mathlib.Core.Path.{◌≡◌}
+-- What holds in the loop of `bench_statuses`: with no rounds nothing is counted.
+use Rattle.std.proofs.Common.{◌≡◌}
 use Rattle.bench_calls.proofs.shelves.bench_statuses.Given as goal
 
-abbrev pub invariant-loop-k : goal.invariant-loop-k
-invariant-loop-k l = (l.k ≤ l.rounds) × (l.rounds ≡ 0 → l.t.good ≡ 0)
-
-abbrev pub decreases-loop-k : goal.decreases-loop-k
-decreases-loop-k l = l.rounds - l.k
+abbrev pub invariant-loop : goal.invariant-loop
+invariant-loop l = l.rounds ≡ 0 → l.t.good ≡ 0

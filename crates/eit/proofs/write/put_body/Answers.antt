@@ -4,4 +4,4 @@ use Rattle.eit.proofs.write.put_body.Goals as goal
 
 pub returns : goal.returns
 returns c =
-    body_put _ _ _ _ _ c.put_byte.ensures c.put_events.ensures
+    body_put _ _ _ _ _ c.put_number.ensures c.put_events.ensures

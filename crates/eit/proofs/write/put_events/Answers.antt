@@ -1,16 +1,17 @@
 -- `put_events` meets its contract: the events that are left lead to the answer.
 use native.Mathlib.Omega.{arith}
+use Rattle.eit.proofs.EventsLaws.{one_less}
+use Rattle.eit.proofs.GivenLaws.{next_row}
 use Rattle.eit.proofs.WriteLaws.{event_left, events_step, events_done}
 use Rattle.eit.proofs.write.put_events.Goals as goal
 
 pub put_event-next-requires : goal.put_event-next-requires
-put_event-next-requires c = event_left _ _ _ _ _ _ _ _ c.loop-left.invariant c.loop-left-test.true
+put_event-next-requires c = event_left _ _ _ _ _ _ _ _ c.loop-i.invariant (omega arith)
 
-pub loop-left-preserved : goal.loop-left-preserved
-loop-left-preserved c =
-    let l = c.loop-left.invariant in
+pub loop-i-preserved : goal.loop-i-preserved
+loop-i-preserved c =
     let q = c.put_event-next.ensures in
-    events_step _ _ _ _ _ _ _ _ l _ _ c.loop-left-test.true q.puts q.next
+    rw (one_less c.args.n c.loop-i.i, next_row c.loop-i.i) (events_step _ _ _ _ _ _ _ _ c.loop-i.invariant _ _ (omega arith) q.puts q.next)
 
 pub returns : goal.returns
-returns c = events_done _ _ _ _ _ _ _ _ c.loop-left.invariant (omega (arith, c.loop-left-test.false))
+returns c = events_done _ _ _ _ _ _ _ _ c.loop-i.invariant (omega arith)

@@ -1,4 +1,5 @@
--- What holds in the loops of `put_events`.
+-- What holds in the loop of `put_events`.
+use Prim.Native.Nat.{◌-◌, ◌*◌}
 use lib.ListN.{length}
 use lib.Seq.{sets}
 use Rattle.format.specs.Repeats.{encs}
@@ -8,8 +9,7 @@ use Rattle.eit.specs.Given.{events_given}
 use Rattle.eit.proofs.WriteLaws.{EventsLeft}
 use Rattle.eit.proofs.write.put_events.Given as goal
 
-abbrev pub invariant-loop-left : goal.invariant-loop-left
-invariant-loop-left l = EventsLeft l.rows l.bytes (length l.initial.out) (sets l.initial.out l.at (encs (event_of any_bytes any_bytes).enc (events_given l.rows l.bytes l.n 0))) l.out l.a l.next l.left
-
-abbrev pub decreases-loop-left : goal.decreases-loop-left
-decreases-loop-left l = l.left
+abbrev pub invariant-loop-i : goal.invariant-loop-i
+invariant-loop-i l =
+    EventsLeft l.rows l.bytes (length l.initial.out) (sets l.initial.out l.at (encs (event_of any_bytes any_bytes).enc (events_given l.rows l.bytes l.n 0))) l.out
+    (8 * l.i) l.next (l.n - l.i)

@@ -4,4 +4,4 @@ use Rattle.eit.proofs.write.put_list.Goals as goal
 
 pub returns : goal.returns
 returns c =
-    list_put _ _ c.requires.0.0 _ _ c.put_word.ensures c.put_part.ensures
+    list_put _ _ c.requires.0.0 _ _ c.put_number.ensures c.put_part.ensures

@@ -4,4 +4,4 @@ use Rattle.eit.proofs.write.put_title.Goals as goal
 
 pub returns : goal.returns
 returns c =
-    title_put _ _ c.requires.0.0 _ _ c.put_byte.ensures c.put_part.ensures
+    title_put _ _ c.requires.0.0 _ _ c.put_number.ensures c.put_part.ensures

@@ -1,10 +1,10 @@
 -- `title_sound` meets its contract.
-use Rattle.eit.proofs.GivenLaws.{part_past, part_told}
+use native.Mathlib.Omega.{arith}
+use Rattle.eit.proofs.GivenLaws.{part_past, part_sliced}
 use Rattle.eit.proofs.write.title_sound.Goals as goal
 
-pub returns-then-bytes-p : goal.returns-then-bytes-p
-returns-then-bytes-p c = part_past _ _ _ c.if-bytes-p.true
+pub returns-in-Some : goal.returns-in-Some
+returns-in-Some c = let l = c.in-Some.ensures.lookup in part_sliced _ _ _ l.0.1 l.0.2 c.whole_text.ensures c.is_ok.ensures.value
 
-pub returns : goal.returns
-returns c =
-    part_told _ _ _ c.if-bytes-p.false c.part_of-t.ensures c.whole_text.ensures c.stood.ensures
+pub returns-in-None : goal.returns-in-None
+returns-in-None c = part_past _ _ _ (omega (arith, c.in-None.ensures.lookup))

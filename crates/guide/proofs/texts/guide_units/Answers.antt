@@ -3,10 +3,10 @@ use Rattle.telling.proofs.ToldLaws.{told_refused, told_as}
 use Rattle.telling.specs.Texts.{of_text}
 use Rattle.guide.proofs.texts.guide_units.Goals as goal
 
-pub returns-in-Nothing : goal.returns-in-Nothing
+pub returns-in-None : goal.returns-in-None
 unfolding of_text
-returns-in-Nothing c = told_refused _ _ _ _ _ (rw (← c.which_of.ensures, c.in-Nothing.is)) c.number_of.ensures
+returns-in-None c = told_refused _ _ _ _ _ (rw (← c.which_of.ensures, c.in-None.is)) c.number_of.ensures
 
-pub returns-in-Is : goal.returns-in-Is
+pub returns-in-Some : goal.returns-in-Some
 unfolding of_text
-returns-in-Is c = rw (← c.which_of.ensures, c.in-Is.is) (told_as (rw c.wide.ensures at c.string_units.ensures) c.tell_amount.ensures)
+returns-in-Some c = rw (← c.which_of.ensures, c.in-Some.is) (told_as (rw c.wide.ensures at c.string_units.ensures) c.tell_amount.ensures)

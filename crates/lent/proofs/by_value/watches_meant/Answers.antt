@@ -1,5 +1,4 @@
 -- `watches_meant` meets its contract: the records so far are watches.
-use borrow.Author.Rules.{rules}
 use native.Mathlib.Omega.{arith}
 use mathlib.Core.Path.{◌∙◌, ap}
 use lib.ListN.{replicate}
@@ -8,7 +7,7 @@ use Rattle.lent_memory.proofs.GatherLaws.{taken_none, taken_step}
 use Rattle.lent.proofs.by_value.watches_meant.Goals as goal
 
 pub loop-i-init : goal.loop-i-init
-loop-i-init c = (search rules, ap (λ (w : Watch). replicate 16 w) c.blank_watch-blank.ensures ∙ taken_none c.args.ws)
+loop-i-init c = ap (λ (w : Watch). replicate 16 w) c.blank_watch-blank.ensures ∙ taken_none c.args.ws
 
 pub loop-i-preserved : goal.loop-i-preserved
-loop-i-preserved c = (search rules, taken_step _ _ _ _ _ (omega (arith, c.well_formed.0.1.0.1)) (omega arith) c.loop-i.invariant.1 c.watch_meant.ensures)
+loop-i-preserved c = taken_step _ _ _ _ _ (omega (arith, c.well_formed.0.1.0.1)) (omega arith) c.loop-i.invariant c.watch_meant.ensures

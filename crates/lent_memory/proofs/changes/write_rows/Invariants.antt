@@ -1,11 +1,7 @@
 -- What holds in the loops of `write_rows`.
-use Prim.Native.Nat.{◌-◌, ◌≤◌}
 use mathlib.Core.Path.{◌≡◌}
 use Rattle.lent_memory.specs.Changes.{rows_below}
 use Rattle.lent_memory.proofs.changes.write_rows.Given as goal
 
 abbrev pub invariant-loop-i : goal.invariant-loop-i
-invariant-loop-i l = (l.i ≤ l.n) × (l.l ≡ rows_below l.i l.s l.t l.initial.l)
-
-abbrev pub decreases-loop-i : goal.decreases-loop-i
-decreases-loop-i l = l.n - l.i
+invariant-loop-i l = l.l ≡ rows_below l.i l.s l.t l.initial.l

@@ -1,5 +1,4 @@
 -- `places_meant` meets its contract: the rows so far are places.
-use borrow.Author.Rules.{rules}
 use mathlib.Core.Path.{◌∙◌, ap}
 use lib.ListN.{replicate}
 use Rattle.shelf_state.specs.declared.records.Place.{Place}
@@ -7,7 +6,7 @@ use Rattle.lent_memory.proofs.RowLaws.{places_none, places_step}
 use Rattle.lent_memory.proofs.rows.places_meant.Goals as goal
 
 pub loop-i-init : goal.loop-i-init
-loop-i-init c = (search rules, ap (λ (p : Place). replicate 64 p) c.blank_place-blank.ensures ∙ places_none _ _)
+loop-i-init c = ap (λ (p : Place). replicate 64 p) c.blank_place-blank.ensures ∙ places_none _ _
 
 pub loop-i-preserved : goal.loop-i-preserved
-loop-i-preserved c = (search rules, places_step _ _ _ _ _ c.loop-i.invariant.1 c.place_meant.ensures)
+loop-i-preserved c = places_step _ _ _ _ _ c.loop-i.invariant c.place_meant.ensures

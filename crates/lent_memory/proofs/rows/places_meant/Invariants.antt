@@ -1,5 +1,4 @@
 -- What holds in the loops of `places_meant`.
-use Prim.Native.Nat.{◌-◌, ◌≤◌}
 use mathlib.Core.Path.{◌≡◌}
 use lib.ListN.{replicate}
 use Rattle.shelf_state.specs.Records.{blank_place}
@@ -7,7 +6,4 @@ use Rattle.lent_memory.specs.Meaning.{places_meant}
 use Rattle.lent_memory.proofs.rows.places_meant.Given as goal
 
 abbrev pub invariant-loop-i : goal.invariant-loop-i
-invariant-loop-i l = (l.i ≤ l.n) × (l.ps ≡ places_meant l.i l.l (replicate 64 blank_place))
-
-abbrev pub decreases-loop-i : goal.decreases-loop-i
-decreases-loop-i l = l.n - l.i
+invariant-loop-i l = l.ps ≡ places_meant l.i l.l (replicate 64 blank_place)

@@ -7,5 +7,4 @@ pub returns : goal.returns
 unfolding event_line
 returns c =
     let e = c.event_at-e.ensures in
-    let r = c.put_rest.ensures in
-    record { puts = put_then (rw e at c.put_times-m.ensures) (rw e at r.puts); keeps = r.keeps }
+    put_then (rw e at c.put_times-m.ensures) (rw e at c.put_rest.ensures)

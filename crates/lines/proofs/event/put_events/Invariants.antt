@@ -1,11 +1,7 @@
--- What holds in the loops of `put_events`.
-use mathlib.Core.Path.{◌≡◌}
-use lib.ListN.{length}
+-- What holds in the loop of `put_events`.
+use Prim.Native.Nat.{◌-◌}
 use Rattle.lines.proofs.EventLaws.{Left}
 use Rattle.lines.proofs.event.put_events.Given as goal
 
-abbrev pub invariant-loop-left : goal.invariant-loop-left
-invariant-loop-left l = (length l.units ≡ 2040) × Left l.s l.k l.from l.initial.out l.n l.out l.m l.a l.left
-
-abbrev pub decreases-loop-left : goal.decreases-loop-left
-decreases-loop-left l = l.left
+abbrev pub invariant-loop : goal.invariant-loop
+invariant-loop l = Left l.s l.k l.from l.initial.out l.n l.out l.m l.a (l.k - l.counter)

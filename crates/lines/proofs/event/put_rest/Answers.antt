@@ -4,4 +4,4 @@ use Rattle.lines.proofs.event.put_rest.Goals as goal
 
 pub returns : goal.returns
 returns c =
-    record { puts = put_then c.put_all-start.ensures (put_then c.put_title-end.ensures.puts c.put_all.ensures); keeps = c.put_title-end.ensures.keeps }
+    put_then c.put_all-start.ensures (put_then c.put_title-end.ensures c.put_all.ensures)

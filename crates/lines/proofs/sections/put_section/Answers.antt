@@ -1,7 +1,7 @@
 -- `put_section` meets its contract: 15, then the judge.
 use mathlib.Core.Path.{sym, ap, ◌∙◌}
 use native.Mathlib.Omega.{arith}
-use Rattle.section.specs.Answers.{head_outcome}
+use Rattle.refusal.specs.Outcomes.{outcome}
 use Rattle.lines.specs.Lines.{outcome_shown}
 use Rattle.lines.proofs.SectionLaws.{no_pid, a_pid}
 use Rattle.lines.proofs.sections.put_section.Goals as goal
@@ -11,13 +11,13 @@ returns-then-pid-gt8191 c =
     let a = c.args in
     rw (no_pid a.pid a.s.now (omega (arith, c.if-pid-gt8191.true))) at c.put_refusal.ensures
 
-pub returns-in-Refused : goal.returns-in-Refused
+pub returns-in-Err : goal.returns-in-Err
 unfolding outcome_shown
-returns-in-Refused c =
-    let j = sym c.judge_any.ensures ∙ ap head_outcome c.in-Refused.is in
-    rw (a_pid c.args.pid _ _ (omega (arith, c.if-pid-gt8191.false)) j) at c.put_refusal-in-Refused.ensures
+returns-in-Err c =
+    let j = sym c.judge_any.ensures ∙ ap outcome c.in-Err.is in
+    rw (a_pid c.args.pid _ _ (omega (arith, c.if-pid-gt8191.false)) j) at c.put_refusal-in-Err.ensures
 
-pub returns-in-Passes : goal.returns-in-Passes
-returns-in-Passes c =
-    let j = sym c.judge_any.ensures ∙ ap head_outcome c.in-Passes.is in
+pub returns-in-Ok : goal.returns-in-Ok
+returns-in-Ok c =
+    let j = sym c.judge_any.ensures ∙ ap outcome c.in-Ok.is in
     rw (a_pid c.args.pid _ _ (omega (arith, c.if-pid-gt8191.false)) j) at c.put_sound.ensures

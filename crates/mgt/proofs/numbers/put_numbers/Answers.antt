@@ -10,6 +10,6 @@ pub returns : goal.returns
 unfolding numbers_row
 returns c =
     let a = c.args in
-    c.put4.ensures ∙ rw (c.narrow-sort.ensures, c.narrow-pid.ensures, c.narrow-version.ensures, c.narrow.ensures)
+    c.put_all.ensures ∙ rw (c.narrow.ensures, c.narrow-2.ensures, c.narrow-3.ensures, c.narrow-4.ensures)
     (numbers_are (λ t p v n. sets a.out.now a.p (t ∷ p ∷ v ∷ n ∷ [])) _ _ c.word.ensures.1.1 c.word-2.ensures.1.1
     c.byte.ensures.1.1 c.long.ensures.1.1)

@@ -1,13 +1,15 @@
 -- `descriptor` meets its contract.
-use Rattle.refusal.specs.Outcomes.{after}
+use mathlib.Core.Path.{ap, ◌∙◌}
+use Rattle.refusal.specs.Outcomes.{or_none}
+use Rattle.refusal.proofs.OutcomeLaws.{exit, went, none_refused}
 use Rattle.reading.specs.Eits.{descriptor_of}
 use Rattle.reading.proofs.eits.descriptor.Goals as goal
 
-pub returns-in-Refused : goal.returns-in-Refused
-unfolding descriptor_of after
-returns-in-Refused c = rw (← c.spot_of.ensures.0, c.in-Refused.is)
+pub returns-in_err-a : goal.returns-in_err-a
+unfolding descriptor_of
+returns-in_err-a c = exit _ _ c.from_residual.ensures.1 c.spot_of.ensures.0 c.in_err-a.was
 
-pub returns-in-At : goal.returns-in-At
-unfolding descriptor_of after
-returns-in-At c =
-    rw (← c.spot_of.ensures.0, c.in-At.is) (rw c.descriptor_at.ensures at c.descriptor_answer.ensures)
+pub returns : goal.returns
+unfolding descriptor_of
+returns c =
+    went _ c.spot_of.ensures.0 c.in_ok-a.was (none_refused _ c.ok_or.ensures.value ∙ ap or_none c.descriptor_at.ensures)

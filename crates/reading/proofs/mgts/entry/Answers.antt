@@ -1,13 +1,14 @@
 -- `entry` meets its contract.
+use Rattle.refusal.proofs.OutcomeLaws.{exit}
 use Rattle.refusal.specs.Outcomes.{after}
 use Rattle.reading.specs.Mgts.{entry_of}
 use Rattle.reading.proofs.mgts.entry.Goals as goal
 
-pub returns-in-Refused : goal.returns-in-Refused
-unfolding entry_of after
-returns-in-Refused c = rw (← c.spot_of.ensures.0, c.in-Refused.is)
+pub returns-in_err-a : goal.returns-in_err-a
+unfolding entry_of
+returns-in_err-a c = exit _ _ c.from_residual.ensures.1 c.spot_of.ensures.0 c.in_err-a.was
 
-pub returns-in-At : goal.returns-in-At
+pub returns : goal.returns
 unfolding entry_of after
-returns-in-At c =
-    rw (← c.spot_of.ensures.0, c.in-At.is, c.defined_at.ensures)
+returns c =
+    rw (← c.spot_of.ensures.0, c.in_ok-a.was, c.defined_at.ensures)

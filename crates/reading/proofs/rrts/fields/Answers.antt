@@ -1,7 +1,8 @@
 -- `fields` meets its contract.
 use mathlib.Core.Path.{sym, ap, ◌∙◌}
+use Rattle.refusal.proofs.OutcomeLaws.{exit}
 use Rattle.refusal.specs.Outcomes.{after}
-use Rattle.section.specs.Answers.{head_outcome}
+use Rattle.refusal.specs.Outcomes.{outcome}
 use Rattle.entry.specs.declared.Entry.TheVariants.{Dimension}
 use Rattle.entry.proofs.EntryLaws.{judged_begins}
 use Rattle.reading.specs.Rrts.{fields_of}
@@ -9,12 +10,12 @@ use Rattle.reading.proofs.rrts.fields.Goals as goal
 
 pub fields_in-requires : goal.fields_in-requires
 fields_in-requires c =
-    judged_begins Dimension c.args.s.now _ (sym c.judge_kind.ensures ∙ ap head_outcome c.in-Passes.is)
+    judged_begins Dimension c.args.s.now _ (sym c.judge_kind.ensures ∙ ap outcome c.in_ok-h.was)
 
-pub returns-in-Refused : goal.returns-in-Refused
-unfolding fields_of after
-returns-in-Refused c = rw (← c.judge_kind.ensures, c.in-Refused.is)
+pub returns-in_err-h : goal.returns-in_err-h
+unfolding fields_of
+returns-in_err-h c = exit _ _ c.from_residual.ensures.1 c.judge_kind.ensures c.in_err-h.was
 
-pub returns-in-Passes : goal.returns-in-Passes
+pub returns : goal.returns
 unfolding fields_of after
-returns-in-Passes c = rw (← c.judge_kind.ensures, c.in-Passes.is) c.fields_in.ensures
+returns c = rw (← c.judge_kind.ensures, c.in_ok-h.was) c.fields_in.ensures

@@ -8,6 +8,3 @@ use Rattle.rows.proofs.values.put_dimensions.Given as goal
 
 abbrev pub invariant-loop-i : goal.invariant-loop-i
 invariant-loop-i l = DimensionsLeft l.s (length l.initial.out) (sets l.initial.out 0 (dimension_rows l.s 0 l.n l.from)) l.out l.i l.d l.p (l.n - l.i)
-
-abbrev pub decreases-loop-i : goal.decreases-loop-i
-decreases-loop-i l = l.n - l.i

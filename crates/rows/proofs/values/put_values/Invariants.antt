@@ -9,6 +9,3 @@ use Rattle.rows.proofs.values.put_values.Given as goal
 
 abbrev pub invariant-loop-j : goal.invariant-loop-j
 invariant-loop-j l = ValuesLeft l.s l.i (values_end l.s l.n l.from) (length l.initial.out) (sets l.initial.out l.p (value_rows l.s l.i 0 l.n l.from)) l.out l.j l.a l.q (l.n - l.j)
-
-abbrev pub decreases-loop-j : goal.decreases-loop-j
-decreases-loop-j l = l.n - l.j

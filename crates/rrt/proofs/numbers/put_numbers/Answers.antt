@@ -7,4 +7,4 @@ use Rattle.rrt.proofs.numbers.put_numbers.Goals as goal
 pub returns : goal.returns
 returns c =
     let e = dimension_is _ _ _ _ _ c.text_at-name.ensures.0 c.text_end.ensures.0 c.byte-x.ensures.0 c.byte-x.ensures.1.1 in
-    c.put4.ensures ∙ rw (c.narrow-start.ensures, c.narrow.ensures, c.narrow-2.ensures, c.narrow-3.ensures) (dimension_row_lem _ _ _ _ _ e)
+    c.put_all.ensures ∙ rw (c.narrow.ensures, c.narrow-2.ensures, c.narrow-3.ensures, c.narrow-4.ensures) (dimension_row_lem _ _ _ _ _ e)

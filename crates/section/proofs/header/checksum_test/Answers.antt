@@ -4,10 +4,10 @@ use mathlib.Core.Path.{refl, sym, ◌∙◌}
 use Rattle.refusal.proofs.TestLaws.{lets, stops}
 use Rattle.section.proofs.header.checksum_test.Goals as goal
 
-pub returns-then-is_sound : goal.returns-then-is_sound
+pub returns-then-not-is_sound : goal.returns-then-not-is_sound
 unfolding checksum_test
-returns-then-is_sound c = lets _ _ (sym c.is_sound.ensures ∙ c.if-is_sound.true) c.number_tests.ensures
+returns-then-not-is_sound c = stops _ _ (sym c.is_sound.ensures ∙ c.if-not-is_sound.true) refl
 
-pub returns-else-is_sound : goal.returns-else-is_sound
+pub returns : goal.returns
 unfolding checksum_test
-returns-else-is_sound c = stops _ _ (sym c.is_sound.ensures ∙ c.if-is_sound.false) refl
+returns c = lets _ _ (sym c.is_sound.ensures ∙ c.if-not-is_sound.false) c.number_tests.ensures

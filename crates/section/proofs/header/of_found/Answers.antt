@@ -8,4 +8,4 @@ returns-in_default c = rw c.in_default.is
 
 pub returns : goal.returns
 unfolding of_kind
-returns c = rw c.in-Is.is (rw c.limits.ensures at c.length_tests.ensures)
+returns c = rw c.in-Some.is (rw c.limits.ensures at c.length_tests.ensures)

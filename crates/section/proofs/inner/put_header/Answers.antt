@@ -17,4 +17,4 @@ returns c =
     header_put c.args.out.now c.args.kind c.args.g c.args.n _ _ _ _
     c.table_id.ensures c.id_and_length.ensures
     c.extension_and_version.ensures c.numbers_and_protocol.ensures
-    c.put_three.ensures c.put_three-2.ensures c.put_three-3.ensures
+    c.put_number.ensures c.put_number-2.ensures c.put_number-3.ensures

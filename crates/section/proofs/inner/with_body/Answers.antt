@@ -1,11 +1,12 @@
 -- `with_body` meets its contract: a refusal goes first, then the body.
+use Rattle.refusal.proofs.OutcomeLaws.{handed_on}
 use Rattle.section.specs.Answers.{with_body}
 use Rattle.section.proofs.inner.with_body.Goals as goal
 
-pub returns-in-Refused : goal.returns-in-Refused
+pub returns-in_err-head : goal.returns-in_err-head
 unfolding with_body
-returns-in-Refused c = rw c.in-Refused.is
+returns-in_err-head c = rw (handed_on c.from_residual.ensures.1, c.in_err-head.was)
 
-pub returns-in-Passes : goal.returns-in-Passes
+pub returns : goal.returns
 unfolding with_body
-returns-in-Passes c = rw c.in-Passes.is c.body_test.ensures
+returns c = rw c.in_ok-head.was c.body_test.ensures

@@ -1,13 +1,14 @@
 -- `dimension_in` meets its contract.
+use Rattle.refusal.proofs.OutcomeLaws.{exit}
 use Rattle.refusal.specs.Outcomes.{after}
 use Rattle.section_text.specs.Fields.{dimension_name_in}
 use Rattle.section_text.proofs.field.dimension_in.Goals as goal
 
-pub returns-in-Refused : goal.returns-in-Refused
-unfolding dimension_name_in after
-returns-in-Refused c = rw (← c.spot_in.ensures.0, c.in-Refused.is)
+pub returns-in_err-d : goal.returns-in_err-d
+unfolding dimension_name_in
+returns-in_err-d c = exit _ _ c.from_residual.ensures.1 c.spot_in.ensures.0 c.in_err-d.was
 
-pub returns-in-At : goal.returns-in-At
+pub returns : goal.returns
 unfolding dimension_name_in after
-returns-in-At c =
-    rw (← c.spot_in.ensures.0, c.in-At.is, c.dimension_at-dimension.ensures)
+returns c =
+    rw (← c.spot_in.ensures.0, c.in_ok-d.was, c.dimension_at.ensures)

@@ -11,8 +11,5 @@ pub loop-i-preserved : goal.loop-i-preserved
 loop-i-preserved c =
     let q = c.loop-i in
     let a = c.args in
-    let h : q.i < length a.o.now = omega arith in (
-      omega arith,
-      c.put_unit.ensures ∙ ap (λ (l : List ℕ). set l (a.n + q.i) (get_or a.o.now q.i 0)) q.invariant.1
-          ∙ copied a.out.now a.o.now a.n q.i h,
-    )
+    let h : q.i < length a.o.now = omega arith in
+    c.put_unit.ensures ∙ ap (λ (l : List ℕ). set l (a.n + q.i) (get_or a.o.now q.i 0)) q.invariant ∙ copied a.out.now a.o.now a.n q.i h

@@ -1,30 +1,18 @@
--- `close` meets its contract: 14 and 17 in this order.
-use Prim.Native.Nat.{ℕ}
-use mathlib.Core.Path.{◌∙◌, ap, refl, sym}
+-- `close` meets its contract: 14 and 17, or the shelf without the watch.
 use native.Mathlib.Omega.{arith}
-use Rattle.logic.proofs.LoopLaws.{any_no, any_yes}
-use Rattle.shelf_state.proofs.RuleLaws.{rules}
-use Rattle.shelf_state.specs.Records.{blank_watch}
-use Rattle.shelf_state.specs.Searches.{dropped, set_watch}
-use Rattle.shelf.proofs.CallLaws.{go_on, stop}
-use Rattle.shelf.specs.Calls.{answered, closed}
+use mathlib.Core.Path.{◌∙◌, ap, sym}
+use Rattle.refusal.specs.Outcomes.{outcome}
+use Rattle.shelf.proofs.CarriedLaws.{by_refusal, by_result, closed_as, known_facts}
+use Rattle.shelf.specs.Calls.{answered}
 use Rattle.shelf.proofs.calls.close.Goals as goal
 
-pub returns-then-not-obeys_rules : goal.returns-then-not-obeys_rules
-unfolding closed
-returns-then-not-obeys_rules c = stop _ _ _ _ (sym c.obeys_rules.ensures ∙ c.if-not-obeys_rules.true) refl
-
-pub find_watch-w-requires : goal.find_watch-w-requires
-find_watch-w-requires c = (rules _ _ (sym c.obeys_rules.ensures ∙ c.if-not-obeys_rules.false)).size.records_16
-
-pub returns-then-w-n : goal.returns-then-w-n
-unfolding closed
-returns-then-w-n c = go_on _ _ _ _ (sym c.obeys_rules.ensures ∙ c.if-not-obeys_rules.false) (stop _ _ _ _ (any_no _ _ c.find_watch-w.ensures c.if-w-n.true) refl)
-
 pub without-requires : goal.without-requires
-without-requires c = let z = (rules _ _ (sym c.obeys_rules.ensures ∙ c.if-not-obeys_rules.false)).size in (omega (arith, z.records_16, c.if-w-n.false), z.count_64)
+without-requires c =
+    let k = known_facts _ _ _ _ (sym c.watch_of.ensures ∙ ap outcome c.in-Ok.is) in
+    let z = k.rules.size in (omega (arith, z.records_16, k.below), z.count_64)
 
-pub returns : goal.returns
-unfolding closed
-returns c = go_on _ _ _ _ (sym c.obeys_rules.ensures ∙ c.if-not-obeys_rules.false) (go_on _ _ _ _ (any_yes _ _ c.find_watch-w.ensures c.if-w-n.false)
-    ((ap (answered tt) (c.without.ensures ∙ ap (λ (w : ℕ). set_watch (dropped c.args.s w) w blank_watch) c.find_watch-w.ensures))))
+pub returns-in-Err : goal.returns-in-Err
+returns-in-Err c = by_refusal _ _ (closed_as _ _ _) c.watch_of.ensures c.in-Err.is
+
+pub returns-in-Ok : goal.returns-in-Ok
+returns-in-Ok c = by_result _ _ (closed_as _ _ _) c.watch_of.ensures c.in-Ok.is (ap (answered tt) c.without.ensures)

@@ -1,21 +1,21 @@
--- `open` meets its contract: 14 and 15, then the others.
-use mathlib.Core.Path.{◌∙◌, refl, sym}
-use Rattle.shelf_state.proofs.RuleLaws.{rules}
-use Rattle.shelf.proofs.CallLaws.{go_on, stop}
-use Rattle.shelf.specs.Calls.{opened}
+-- `open` meets its contract: 14, 15, 19, 20 and 21, or the watch in its record.
+use mathlib.Core.Path.{◌∙◌, ap, sym}
+use Rattle.refusal.specs.Outcomes.{outcome}
+use Rattle.shelf_state.specs.Searches.{set_watch}
+use Rattle.shelf_state.specs.declared.records.Watch.{Watch}
+use Rattle.shelf.proofs.CarriedLaws.{by_refusal, by_result, opened_as, opening_facts}
+use Rattle.shelf.specs.Calls.{answered}
 use Rattle.shelf.proofs.calls.open.Goals as goal
 
-pub returns-then-not-obeys_rules : goal.returns-then-not-obeys_rules
-unfolding opened
-returns-then-not-obeys_rules c = stop _ _ _ _ (sym c.obeys_rules.ensures ∙ c.if-not-obeys_rules.true) refl
+pub fresh_watch-requires : goal.fresh_watch-requires
+fresh_watch-requires c = (opening_facts _ _ _ _ _ (sym c.record_for.ensures ∙ ap outcome c.in-Ok.is)).range
 
-pub returns-then-not-in_range : goal.returns-then-not-in_range
-unfolding opened
-returns-then-not-in_range c = go_on _ _ _ _ (sym c.obeys_rules.ensures ∙ c.if-not-obeys_rules.false) (stop _ _ _ _ (sym c.in_range.ensures ∙ c.if-not-in_range.true) refl)
+pub set_watch-requires : goal.set_watch-requires
+set_watch-requires c = (opening_facts _ _ _ _ _ (sym c.record_for.ensures ∙ ap outcome c.in-Ok.is)).small
 
-pub open_in_range-requires : goal.open_in_range-requires
-open_in_range-requires c = ((rules _ _ (sym c.obeys_rules.ensures ∙ c.if-not-obeys_rules.false)).size.records_16, sym c.in_range.ensures ∙ c.if-not-in_range.false)
+pub returns-in-Err : goal.returns-in-Err
+returns-in-Err c = by_refusal _ _ (opened_as _ _ _ _) c.record_for.ensures c.in-Err.is
 
-pub returns : goal.returns
-unfolding opened
-returns c = go_on _ _ _ _ (sym c.obeys_rules.ensures ∙ c.if-not-obeys_rules.false) (go_on _ _ _ _ (sym c.in_range.ensures ∙ c.if-not-in_range.false) c.open_in_range.ensures)
+pub returns-in-Ok : goal.returns-in-Ok
+returns-in-Ok c = by_result _ _ (opened_as _ _ _ _) c.record_for.ensures c.in-Ok.is
+    (ap (answered tt) (c.set_watch.ensures ∙ ap (λ (x : Watch). set_watch c.args.s c.in-Ok.f x) c.fresh_watch.ensures))

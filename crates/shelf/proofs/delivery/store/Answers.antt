@@ -6,14 +6,11 @@ use native.Mathlib.Numerals.{add-one}
 use native.Mathlib.Omega.{arith}
 use lib.ListN.{get_or, set}
 use lib.Seq.{paste, paste-suc}
-use borrow.Author.Rules.{rules}
 use Rattle.shelf.proofs.delivery.store.Goals as goal
 
 pub loop-i-preserved : goal.loop-i-preserved
 loop-i-preserved c = let g = c.args in
-    let i = c.loop-i.i in (
-      search rules,
-      ap (λ (x : List ℕ). set x (g.at + i) (get_or g.bytes.now i 0)) c.loop-i.invariant.1
-          ∙ paste-suc g.area.now g.at g.bytes.now i 0 (omega (arith, c.requires, c.loop-i-test.true)) c.loop-i-test.true
-          ∙ ap (paste g.area.now g.at g.bytes.now) (sym (add-one i)),
-    )
+    let i = c.loop-i.i in
+    ap (λ (x : List ℕ). set x (g.at + i) (get_or g.bytes.now i 0)) c.loop-i.invariant
+    ∙ paste-suc g.area.now g.at g.bytes.now i 0 (omega (arith, c.requires, c.loop-i-test.true)) c.loop-i-test.true
+    ∙ ap (paste g.area.now g.at g.bytes.now) (sym (add-one i))

@@ -1,15 +1,17 @@
 -- `progress_of` meets its contract.
-use mathlib.Core.Path.{◌∙◌, ap}
+use mathlib.Core.Path.{◌∙◌}
 use native.Mathlib.Omega.{arith}
-use Rattle.refusal.specs.Outcomes.{resulted}
+use Rattle.logic.proofs.LoopLaws.{not_e}
+use Rattle.shelf_state.proofs.SearchLaws.{held_same}
+use Rattle.logic.proofs.TestLaws.{not_no}
 use Rattle.shelf.proofs.CallLaws.{status_complete, status_part, status_unheard}
 use Rattle.shelf.proofs.inner.progress_of.Goals as goal
 
-pub returns-then-held-n : goal.returns-then-held-n
-returns-then-held-n c = ap resulted (status_complete _ _ _ _ c.if-e.true (c.held_in-held.ensures ∙ c.requires.2) (omega (arith, c.wide-n.ensures.0)) c.if-held-n.true)
+pub returns-then-not-e : goal.returns-then-not-e
+returns-then-not-e c = status_unheard _ _ (not_e _ c.if-not-e.true)
 
-pub returns-then-e : goal.returns-then-e
-returns-then-e c = ap resulted (status_part _ _ _ _ c.if-e.true (c.held_in-held.ensures ∙ c.requires.2) (omega (arith, c.wide-n.ensures.0)) c.if-held-n.false)
+pub returns-then-held-of : goal.returns-then-held-of
+returns-then-held-of c = status_complete _ _ _ _ (not_no _ c.if-not-e.false) (c.held_in-held.ensures ∙ held_same _ _ c.places_in_use.ensures _ ∙ c.requires.2) (omega (arith, c.from-of.ensures)) c.if-held-of.true
 
 pub returns : goal.returns
-returns c = ap resulted (status_unheard _ _ c.if-e.false)
+returns c = status_part _ _ _ _ (not_no _ c.if-not-e.false) (c.held_in-held.ensures ∙ held_same _ _ c.places_in_use.ensures _ ∙ c.requires.2) (omega (arith, c.from-of.ensures)) c.if-held-of.false

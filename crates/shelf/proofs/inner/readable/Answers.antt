@@ -1,17 +1,20 @@
 -- `readable` meets its contract: the judge is asked about the kept bytes.
 use Prim.Native.Nat.{ℕ}
-use mathlib.Core.Path.{◌∙◌, ap, sym}
+use mathlib.Core.Path.{◌∙◌, ◌≡◌, ap, refl}
 use mathlib.Core.List.{List}
-use Rattle.section.specs.Answers.{head_outcome}
+use Rattle.std.specs.Prelude.{Err, Ok, Result}
+use Rattle.std.specs.Result.{is_ok}
+use Rattle.refusal.specs.Outcomes.{outcome}
+use Rattle.refusal.specs.declared.Refusal.{Refusal}
 use Rattle.shelf.specs.Inner.{readable_in}
 use Rattle.shelf.specs.Steps.{is_result}
 use Rattle.shelf.specs.Views.{judged}
 use Rattle.shelf.proofs.inner.readable.Goals as goal
 
-pub returns-in-Refused : goal.returns-in-Refused
-unfolding readable_in judged
-returns-in-Refused c = sym (ap (λ (b : List ℕ). is_result (judged b)) (sym c.kept.ensures) ∙ ap is_result (sym c.judge_any.ensures ∙ ap head_outcome c.in-Refused.is))
+told : {A : Type 0} (r : Result A Refusal) → is_ok r ≡ is_result (outcome r)
+told (Ok a) = refl
+told (Err k) = refl
 
-pub returns-in-Passes : goal.returns-in-Passes
+pub returns : goal.returns
 unfolding readable_in judged
-returns-in-Passes c = sym (ap (λ (b : List ℕ). is_result (judged b)) (sym c.kept.ensures) ∙ ap is_result (sym c.judge_any.ensures ∙ ap head_outcome c.in-Passes.is))
+returns c = c.is_ok.ensures.value ∙ (told c.judge_any.result ∙ (ap is_result c.judge_any.ensures ∙ ap (λ (b : List ℕ). is_result (judged b)) c.kept.ensures))

@@ -1,11 +1,12 @@
--- `find_place` meets its contract: no place before the one met has the section.
-use mathlib.Core.Path.{◌∙◌, sym}
-use native.Mathlib.Omega.{arith}
-use Rattle.logic.proofs.LoopLaws.{first_at, first_none}
+-- `find_place` meets its contract: what is found has no other before it.
+use mathlib.Core.Path.{◌∙◌}
+use Rattle.std.proofs.Common.{rules, tests}
+use Rattle.std.proofs.lemmas.Iterator.{YieldsList-from_slice}
+use Rattle.std.proofs.lemmas.Iterator.Search.{position_from_yields_List}
+use Rattle.shelf_state.proofs.SearchLaws.{sought}
+use Rattle.shelf_state.specs.Records.{blank_place, holds}
 use Rattle.shelf_state.proofs.inner.find_place.Goals as goal
 
-pub returns-then-holds_section : goal.returns-then-holds_section
-returns-then-holds_section c = sym (first_at _ _ _ c.loop-i-test.true c.loop-i.invariant.1 (sym c.holds_section.ensures ∙ c.if-holds_section.true))
-
 pub returns : goal.returns
-returns c = sym (first_none _ _ (λ k h. c.loop-i.invariant.1 k (omega arith)))
+returns c = let l = c.args.ps.now in
+    c.unwrap_or.ensures ∙ sought (λ p. holds p c.args.w c.args.number) blank_place l (position_from_yields_List _ _ _ _ c.position.ensures.ran (YieldsList-from_slice l cc) (λ x b q k. search (rules, tests)))

@@ -1,12 +1,13 @@
--- `free_place` meets its contract: every place before the one met is taken.
-use mathlib.Core.Path.{ap, sym}
+-- `free_place` meets its contract: what is found has no other before it.
 use mathlib.Core.Bool.{not}
-use native.Mathlib.Omega.{arith}
-use Rattle.logic.proofs.LoopLaws.{first_at, first_none}
+use mathlib.Core.Path.{◌∙◌}
+use Rattle.std.proofs.Common.{rules, tests}
+use Rattle.std.proofs.lemmas.Iterator.{YieldsList-from_slice}
+use Rattle.std.proofs.lemmas.Iterator.Search.{position_from_yields_List}
+use Rattle.shelf_state.proofs.SearchLaws.{sought}
+use Rattle.shelf_state.specs.Records.{blank_place}
 use Rattle.shelf_state.proofs.inner.free_place.Goals as goal
 
-pub returns-else-p : goal.returns-else-p
-returns-else-p c = sym (first_at _ _ _ c.loop-i-test.true c.loop-i.invariant.1 (ap not c.if-p.false))
-
 pub returns : goal.returns
-returns c = sym (first_none _ _ (λ k h. c.loop-i.invariant.1 k (omega arith)))
+returns c = let l = c.args.ps.now in
+    c.unwrap_or.ensures ∙ sought (λ p. not p.used) blank_place l (position_from_yields_List _ _ _ _ c.position.ensures.ran (YieldsList-from_slice l cc) (λ x b q k. search (rules, tests)))

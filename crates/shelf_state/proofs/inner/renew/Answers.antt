@@ -1,10 +1,9 @@
 -- `renew` meets its contract: with the record in place, the places so far are released.
-use borrow.Author.Rules.{rules}
 use Rattle.shelf_state.proofs.RecordLaws.{drop_none, drop_step}
 use Rattle.shelf_state.proofs.inner.renew.Goals as goal
 
 pub loop-i-init : goal.loop-i-init
-loop-i-init c = (search rules, drop_none _ _)
+loop-i-init c = drop_none _ _
 
 pub loop-i-preserved : goal.loop-i-preserved
-loop-i-preserved c = (search rules, drop_step _ _ _ _ _ c.loop-i.invariant.1 c.released-p.ensures)
+loop-i-preserved c = drop_step _ _ _ _ _ c.loop-i.invariant c.released.ensures

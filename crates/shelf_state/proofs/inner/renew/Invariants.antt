@@ -1,11 +1,7 @@
 -- What holds in the loops of `renew`.
-use Prim.Native.Nat.{◌-◌, ◌≤◌}
 use mathlib.Core.Path.{◌≡◌}
 use Rattle.shelf_state.specs.Searches.{drop_below}
 use Rattle.shelf_state.proofs.inner.renew.Given as goal
 
 abbrev pub invariant-loop-i : goal.invariant-loop-i
-invariant-loop-i l = (l.i ≤ l.n) × (l.t ≡ drop_below l.initial.t l.w l.i)
-
-abbrev pub decreases-loop-i : goal.decreases-loop-i
-decreases-loop-i l = l.n - l.i
+invariant-loop-i l = l.t ≡ drop_below l.initial.t l.w l.i

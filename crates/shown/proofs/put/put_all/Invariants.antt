@@ -1,11 +1,7 @@
--- What holds in the loops of `put_all`.
-use Prim.Native.Nat.{◌-◌, ◌≤◌}
-use lib.ListN.{length, take}
+-- What holds in the loop of `put_all`: the first bytes are put.
+use lib.ListN.{take}
 use Rattle.shown.specs.Output.{Put}
 use Rattle.shown.proofs.put.put_all.Given as goal
 
-abbrev pub invariant-loop-i : goal.invariant-loop-i
-invariant-loop-i l = (l.i ≤ length l.bytes) × Put (take l.i l.bytes) l.initial.out l.n l.m l.out
-
-abbrev pub decreases-loop-i : goal.decreases-loop-i
-decreases-loop-i l = length l.bytes - l.i
+abbrev pub invariant-loop-b : goal.invariant-loop-b
+invariant-loop-b l = Put (take l.b-index l.bytes) l.initial.out l.n l.m l.out

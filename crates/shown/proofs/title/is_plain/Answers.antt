@@ -1,19 +1,19 @@
 -- `is_plain` meets its contract.
+use mathlib.Core.Path.{ap, ◌∙◌}
+use mathlib.Core.Bool.{not}
+use borrow.Author.Tests.{eq-eqb}
 use native.Mathlib.Omega.{arith}
-use Rattle.shown.proofs.TitleLaws.{plain_low, plain_high, plain_mark, plain_other, quote_not, backslash_not}
+use Rattle.shown.proofs.TitleLaws.{plain_low, plain_high, plain_mark, plain_other, quote_not}
 use Rattle.shown.proofs.title.is_plain.Goals as goal
 
-pub returns-then-u-lt32 : goal.returns-then-u-lt32
-returns-then-u-lt32 c = plain_low _ (omega arith)
+pub returns-then-u-ne34 : goal.returns-then-u-ne34
+returns-then-u-ne34 c = plain_other _ (omega arith) (omega arith) c.if-u-ne34.true
 
-pub returns-then-u-gt126 : goal.returns-then-u-gt126
-returns-then-u-gt126 c = plain_high _ (omega arith) (omega arith)
+pub returns-else-u-ne34 : goal.returns-else-u-ne34
+returns-else-u-ne34 c = ap not (eq-eqb _ 34 c.if-u-ne34.false) ∙ plain_mark _ 34 quote_not c.if-u-ne34.false
 
-pub returns-then-u-eq34 : goal.returns-then-u-eq34
-returns-then-u-eq34 c = plain_mark _ 34 quote_not (omega arith)
+pub returns-in_default : goal.returns-in_default
+returns-in_default c = plain_low _ (omega arith)
 
-pub returns-then-u-eq92 : goal.returns-then-u-eq92
-returns-then-u-eq92 c = plain_mark _ 92 backslash_not (omega arith)
-
-pub returns : goal.returns
-returns c = plain_other _ (omega arith) (omega arith) c.if-u-eq34.false c.if-u-eq92.false
+pub returns-in_default-2 : goal.returns-in_default-2
+returns-in_default-2 c = plain_high _ (omega arith) (omega arith)

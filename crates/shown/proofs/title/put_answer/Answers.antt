@@ -4,11 +4,11 @@ use Rattle.shown.specs.Ascii.{field}
 use Rattle.shown.specs.Inner.{told}
 use Rattle.shown.proofs.title.put_answer.Goals as goal
 
-pub returns-in-Refused : goal.returns-in-Refused
+pub returns-in-Err : goal.returns-in-Err
 unfolding text_shown told field
-returns-in-Refused c =
-    rw c.in-Refused.is (rw c.number_of.ensures at c.put_field.ensures)
+returns-in-Err c =
+    rw c.in-Err.is (rw c.number_of.ensures at c.put_field.ensures)
 
-pub returns-in-Are : goal.returns-in-Are
+pub returns-in-Ok : goal.returns-in-Ok
 unfolding told
-returns-in-Are c = rw c.in-Are.is c.put_quoted.ensures
+returns-in-Ok c = rw c.in-Ok.is c.put_quoted.ensures

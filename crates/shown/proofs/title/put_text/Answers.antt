@@ -8,5 +8,5 @@ pub returns : goal.returns
 returns c =
     let a = c.args in
     let x = string_units a.s.now (a.p.start + a.p.length) a.p.start 0 in
-    let t = told_is x _ c.string_read-r.result a.units.now _ c.requires.1.1 c.string_read-r.ensures in
-    record { puts = rw t.1 at c.put_answer.ensures; keeps = c.string_read-r.ensures.long }
+    let t = told_is x _ c.string_read-r.result a.units.now _ c.told-units c.string_read-r.ensures in
+    rw t.1 at c.put_answer.ensures

@@ -1,17 +1,19 @@
 -- `string_units` meets its contract: the whole field first.
-use Rattle.text.proofs.AmountLaws.{amount_refused}
-use Rattle.text.specs.Answers.{amount_of}
+use Rattle.bytes_at.specs.Walks.{standing}
 use Rattle.text.specs.Texts.{field_units}
+use Rattle.text.proofs.AmountLaws.{amount_refused, told_as, handed}
 use Rattle.text.proofs.TextLaws.{field_sound, field_bad}
-use Rattle.bytes_at.proofs.WalkLaws.{goes}
 use mathlib.Core.Path.{sym, ap, ◌∙◌}
 use Rattle.text.proofs.field.string_units.Goals as goal
 
-pub returns-in-To : goal.returns-in-To
+pub returns-in_err-standing : goal.returns-in_err-standing
 unfolding field_units
-returns-in-To c = let w = goes c.whole_text.ensures c.in-To.is in
-    rw (field_sound _ _ _ w) c.string_units.ensures
+returns-in_err-standing c =
+    let w = told_as (c.standing.ensures ∙ ap standing c.whole_text.ensures) c.in_err-standing.was in
+    rw (handed c.from_residual.ensures.1, field_bad _ _ _ w) (sym (amount_refused _ _))
 
-pub returns-in-Bad : goal.returns-in-Bad
+pub returns : goal.returns
 unfolding field_units
-returns-in-Bad c = sym (ap (amount_of _) (field_bad _ _ _ (goes c.whole_text.ensures c.in-Bad.is)) ∙ amount_refused _ 9)
+returns c =
+    let w = told_as (c.standing.ensures ∙ ap standing c.whole_text.ensures) c.in_ok-standing.was in
+    rw (field_sound _ _ _ w) c.string_units.ensures

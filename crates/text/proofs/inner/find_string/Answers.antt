@@ -1,10 +1,13 @@
 -- `find_string` meets its contract.
 use Rattle.text.proofs.TextLaws.{count_there, place_there, place_none, stands_bad, stands}
+use Rattle.text.proofs.AmountLaws.{told_as, handed}
 use Rattle.format.proofs.FieldLaws.{pad}
-use Rattle.bytes_at.proofs.WalkLaws.{goes, standing_to, standing_bad}
+use Rattle.bytes_at.specs.Walks.{standing}
+use Rattle.bytes_at.proofs.WalkLaws.{standing_is}
+use Rattle.refusal.specs.Outcomes.{outcome}
 use native.Mathlib.Omega.{arith}
 use mathlib.Core.List.{[], ◌∷◌}
-use mathlib.Core.Path.{refl, ◌∙◌}
+use mathlib.Core.Path.{ap, refl, ◌∙◌}
 use Rattle.text.proofs.inner.find_string.Goals as goal
 
 pub returns-then-count_strings-k : goal.returns-then-count_strings-k
@@ -15,16 +18,13 @@ overflow_add-at c = let a = c.args in
     let h = count_there a.s.now a.end a.at (omega (arith, c.count_strings.ensures.0)) in
     omega arith
 
-pub returns-in_default : goal.returns-in_default
-returns-in_default c = let w = goes c.strings.ensures c.in_default.is in
-    place_there _ _ _ _ (omega (arith, c.count_strings.ensures.0)) (stands_bad _ _ _ w)
+pub returns-in_err-b : goal.returns-in_err-b
+returns-in_err-b c =
+    let w = told_as (c.standing.ensures ∙ ap standing c.strings.ensures) c.in_err-b.was in
+    ap outcome (handed c.from_residual.ensures.1) ∙ place_there _ _ _ _ (omega (arith, c.count_strings.ensures.0)) (stands_bad _ _ _ w)
 
-pub returns-in-To-skip_fields : goal.returns-in-To-skip_fields
-returns-in-To-skip_fields c = let w = goes c.strings.ensures c.in-To.is in
-    let v = goes (c.skip_fields.ensures ∙ pad 24 (8 ∷ []) 2 _ _) c.in-To-skip_fields.is in
-    place_there _ _ _ _ (omega (arith, c.count_strings.ensures.0)) (standing_to _ _ v ∙ stands _ _ _ _ w refl)
-
-pub returns-in-Bad : goal.returns-in-Bad
-returns-in-Bad c = let w = goes c.strings.ensures c.in-To.is in
-    let v = goes (c.skip_fields.ensures ∙ pad 24 (8 ∷ []) 2 _ _) c.in-Bad.is in
-    place_there _ _ _ _ (omega (arith, c.count_strings.ensures.0)) (standing_bad _ _ v ∙ stands _ _ _ _ w refl)
+pub returns : goal.returns
+returns c =
+    let w = standing_is _ _ (told_as (c.standing.ensures ∙ ap standing c.strings.ensures) c.in_ok-b.was) in
+    let v = c.standing-2.ensures ∙ ap standing (c.skip_fields.ensures ∙ pad 24 (8 ∷ []) 2 _ _) in
+    place_there _ _ _ _ (omega (arith, c.count_strings.ensures.0)) (v ∙ stands _ _ _ _ w refl)

@@ -1,22 +1,19 @@
 -- `judge_and_write` meets its contract.
-use Rattle.text.specs.Strings.{joined_units, joined_replaced}
 use Rattle.text.proofs.TextLaws.{text_stop, text_short, text_fits}
+use Rattle.text.proofs.AmountLaws.{handed}
 use Rattle.text.proofs.inner.judge_and_write.Goals as goal
 
-pub returns-in_default : goal.returns-in_default
-returns-in_default c =
-    let a = c.args in
-    let y = c.all_segments-first.ensures.writes in
-    record { answers = (text_stop (joined_replaced a.s.now a.end a.m a.from) a.out.now (joined_units a.s.now a.end a.m a.from) _ _ y.answers c.in_default.is).0; writes = (text_stop (joined_replaced a.s.now a.end a.m a.from) a.out.now (joined_units a.s.now a.end a.m a.from) _ _ y.answers c.in_default.is).1 }
+pub returns-in_err-a : goal.returns-in_err-a
+returns-in_err-a c =
+    let y = text_stop c.args.out.now _ _ c.all_segments.ensures.answers (handed c.from_residual.ensures.1) c.in_err-a.was in
+    record { answers = y.0; writes = y.1 }
 
 pub returns-then-out-a : goal.returns-then-out-a
 returns-then-out-a c =
-    let a = c.args in
-    let y = c.all_segments-first.ensures.writes in
-    record { answers = (text_short (joined_replaced a.s.now a.end a.m a.from) a.out.now (joined_units a.s.now a.end a.m a.from) _ _ y.answers c.in-Are.is c.if-out-a.true).0; writes = (text_short (joined_replaced a.s.now a.end a.m a.from) a.out.now (joined_units a.s.now a.end a.m a.from) _ _ y.answers c.in-Are.is c.if-out-a.true).1 }
+    let y = text_short c.args.out.now _ _ c.all_segments.ensures.answers c.in_ok-a.was c.if-out-a.true in
+    record { answers = y.0; writes = y.1 }
 
 pub returns : goal.returns
 returns c =
-    let a = c.args in
-    let y = c.all_segments-first.ensures.writes in
-    record { answers = (text_fits (joined_replaced a.s.now a.end a.m a.from) a.out.now (joined_units a.s.now a.end a.m a.from) _ _ _ _ y.answers c.in-Are.is c.if-out-a.false c.all_segments.ensures.writes).0; writes = (text_fits (joined_replaced a.s.now a.end a.m a.from) a.out.now (joined_units a.s.now a.end a.m a.from) _ _ _ _ y.answers c.in-Are.is c.if-out-a.false c.all_segments.ensures.writes).1 }
+    let y = text_fits c.args.out.now _ _ c.all_segments.ensures.answers c.in_ok-a.was c.if-out-a.false c.all_segments-2.ensures in
+    record { answers = y.0; writes = y.1 }

@@ -7,8 +7,8 @@ use native.Mathlib.Omega.{arith}
 use mathlib.Core.Path.{refl}
 use Rattle.text.proofs.once.compressed_once.Goals as goal
 
-pub overflow_sub-k : goal.overflow_sub-k
-overflow_sub-k c =
+pub overflow_sub-result : goal.overflow_sub-result
+overflow_sub-result c =
     let a = c.args in
     omega (arith, once_after (walked (table_of a.titles)) a.s.now _ _ a.n _ c.requires.1 c.read-r.ensures c.if-r-lt4096.true)
 
@@ -17,7 +17,7 @@ returns-then-r-lt4096 c =
     let a = c.args in
     once_text (walked (table_of a.titles)) a.s.now _ _ a.n _ c.requires.1 c.read-r.ensures c.if-r-lt4096.true
 
-pub returns : goal.returns
-returns c =
+pub returns-else-r-lt4096 : goal.returns-else-r-lt4096
+returns-else-r-lt4096 c =
     let a = c.args in
     once_broken (walked (table_of a.titles)) a.s.now _ _ a.n _ c.requires.1 c.read-r.ensures BrokenText refl c.if-r-lt4096.false

@@ -1,15 +1,6 @@
--- `is_compressed` meets its contract: a way of reading each.
-use Rattle.text.specs.Inner.{plain_by}
+-- `is_compressed` meets its contract: the other ways read plain bytes.
+use Rattle.text.proofs.UnitLaws.{plain_else}
 use Rattle.text.proofs.segments.is_compressed.Goals as goal
 
-pub returns-in-Plain : goal.returns-in-Plain
-unfolding plain_by
-returns-in-Plain c = λ q b. rw c.in-Plain.is
-
-pub returns-in-Utf16 : goal.returns-in-Utf16
-unfolding plain_by
-returns-in-Utf16 c = λ q b. rw c.in-Utf16.is
-
-pub returns-in-Unread : goal.returns-in-Unread
-unfolding plain_by
-returns-in-Unread c = λ q b. rw c.in-Unread.is
+pub returns-in_default : goal.returns-in_default
+returns-in_default c = λ q. plain_else c.args.way c.in_default.not-Titles c.in_default.not-Descriptions

@@ -1,5 +1,5 @@
 -- `plain_one` meets its contract: a way of reading each.
-use Rattle.text.proofs.UnitLaws.{wrote_refused}
+use Rattle.text.proofs.UnitLaws.{plain_none, wrote_refused}
 use Rattle.text.specs.Segments.{units_by}
 use Rattle.refusal.specs.declared.Refusal.TheVariants.{NotAReadPair}
 use Rattle.text.specs.Inner.{plain_by}
@@ -15,16 +15,6 @@ unfolding plain_by units_by
 returns-in-Utf16 c = rw c.in-Utf16.is c.utf16.ensures
 
 pub returns-in-Titles : goal.returns-in-Titles
-unfolding plain_by units_by
-returns-in-Titles c = let a = c.args in
-    rw c.in-Titles.is (wrote_refused _ a.out.now a.n NotAReadPair _ refl refl)
-
-pub returns-in-Descriptions : goal.returns-in-Descriptions
-unfolding plain_by units_by
-returns-in-Descriptions c = let a = c.args in
-    rw c.in-Descriptions.is (wrote_refused _ a.out.now a.n NotAReadPair _ refl refl)
-
-pub returns-in-Unread : goal.returns-in-Unread
-unfolding plain_by units_by
-returns-in-Unread c = let a = c.args in
-    rw c.in-Unread.is (wrote_refused _ a.out.now a.n NotAReadPair _ refl refl)
+returns-in-Titles c =
+    let a = c.args in
+    wrote_refused _ a.out.now a.n NotAReadPair _ (plain_none a.way a.s.now c.in-Titles.is) refl

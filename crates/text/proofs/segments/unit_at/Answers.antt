@@ -30,8 +30,8 @@ bounds-s-i-else-wide c = let a = c.args in
 
 pub returns-then-wide : goal.returns-then-wide
 returns-then-wide c = let a = c.args in
-    c.two.ensures ∙ pair_at a.wide a.s.now a.i c.requires.1 c.if-wide.true
+    rw (c.from.ensures, c.from-then-wide.ensures) (pair_at a.wide a.s.now a.i c.requires.1 c.if-wide.true)
 
 pub returns-else-wide : goal.returns-else-wide
 returns-else-wide c = let a = c.args in
-    c.one.ensures ∙ byte_at_lem a.wide a.s.now a.i c.requires.1 c.if-wide.false
+    c.from-else-wide.ensures ∙ byte_at_lem a.wide a.s.now a.i c.requires.1 c.if-wide.false

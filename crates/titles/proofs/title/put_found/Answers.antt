@@ -10,10 +10,10 @@ pub returns-in-NoStrings : goal.returns-in-NoStrings
 unfolding row_of
 returns-in-NoStrings c = rw c.in-NoStrings.is c.put_blank-in-NoStrings.ensures
 
-pub returns-in-Refused : goal.returns-in-Refused
+pub returns-in-Ok : goal.returns-in-Ok
 unfolding row_of
-returns-in-Refused c = rw c.in-Refused.is (rw c.number_of.ensures at c.put_blank-in-Refused.ensures)
+returns-in-Ok c = rw (c.in-Text.is, c.in-Ok.is) (rw (c.narrow.ensures, c.narrow-in-Ok.ensures, c.narrow-in-Ok-2.ensures) at c.put_all.ensures)
 
-pub returns-in-Text : goal.returns-in-Text
+pub returns-in-Err : goal.returns-in-Err
 unfolding row_of
-returns-in-Text c = rw c.in-Text.is (rw (c.narrow.ensures, c.narrow-in-Text.ensures, c.narrow-in-Text-2.ensures) at c.put4.ensures)
+returns-in-Err c = rw (c.in-Text.is, c.in-Err.is) (rw c.number_of.ensures at c.put_blank-in-Err.ensures)

@@ -7,9 +7,10 @@ pub copy_units-requires : goal.copy_units-requires
 copy_units-requires c =
     let r = c.read_title-t.ensures in
     let k = c.units_of-k.ensures in
-    (r.long, omega (arith, k, r.few), omega (arith, k, count_told_lem r, c.requires.1.1.1))
+    (omega (arith, k, r.few), omega (arith, k, count_told_lem r c.read_title-t.array_long, c.requires.3))
 
 pub returns : goal.returns
 returns c =
     let r = c.read_title-t.ensures in
-    let k = c.units_of-k.ensures in record { next = omega (arith, k, count_told_lem r); rows = rw (row_told r _) at c.put_found.ensures; units = rw (k, units_told_lem r) at c.copy_units.ensures; keeps = r.long }
+    let l = c.read_title-t.array_long in
+    let k = c.units_of-k.ensures in record { next = omega (arith, k, count_told_lem r l); rows = rw (row_told r l _) at c.put_found.ensures; units = rw (k, units_told_lem r l) at c.copy_units.ensures }

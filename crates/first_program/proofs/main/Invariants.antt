@@ -1,9 +1,0 @@
--- What holds in the loop of `main`.
-use Rattle.std.proofs.Common.{◌-◌, ◌≤◌}
-use Rattle.first_program.proofs.main.Given as goal
-
-abbrev pub invariant-loop-i : goal.invariant-loop-i
-invariant-loop-i l = l.i ≤ 256
-
-abbrev pub decreases-loop-i : goal.decreases-loop-i
-decreases-loop-i l = 256 - l.i

@@ -1,9 +1,0 @@
--- What holds in the loops of `places`.
-use Prim.Native.Nat.{◌-◌, ◌≤◌}
-use Rattle.shelf_digest.proofs.places.Given as goal
-
-abbrev pub invariant-loop-i : goal.invariant-loop-i
-invariant-loop-i l = l.i ≤ l.n
-
-abbrev pub decreases-loop-i : goal.decreases-loop-i
-decreases-loop-i l = l.n - l.i
