@@ -1,1 +1,2 @@
 pub mod WithinLaws
+pub mod OnceLaws

@@ -6,7 +6,7 @@ ghost use Rattle.shelf_state.specs.Rules.{quota_of};
 ghost use Rattle.shelf_state.specs.Tests.{room_in};
 
 use crate::records::{Asked, Edition, Key, Place, Shelf, Watch, holds_for, holds_section, is_of};
-pub use crate::records::{key_of, wide};
+pub use crate::records::{asked_of, key_of, same_key, wide};
 
 // Of a shelf's arrays, what is in use.
 pub fn watches_in_use(s: &Shelf) -> &[Watch]

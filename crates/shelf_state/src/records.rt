@@ -2,17 +2,31 @@
 //
 // `live`, `heard` and `used` stand beside what they speak of, and not around it as an `Option`: a shelf is what every call takes, and one whose closed
 // records and free places still hold numbers may be given. In lent memory the numbers lie so too.
-ghost use Rattle.std.specs.Prelude.{◌≡◌, ◌<◌};
+ghost use Rattle.std.proofs.Common.{rules};
+ghost use Rattle.std.specs.Cmp.Rules.{comparing};
+ghost use Rattle.std.specs.Prelude.{◌≡◌, ◌<◌, ◌==◌, ◌&&◌};
 ghost use Rattle.shelf_state.specs.Records.{asked, same_key, is_of, holds_for, holds};
 ghost use Rattle.shelf_state.specs.Searches.{key_of};
 
 // A watch's key as its record keeps it.
 #[repr(C)]
-#[derive(Clone, Copy, PartialEq)]
+#[derive(Clone, Copy)]
 pub struct Key {
     pub pid: u16,
     pub table_id: u8,
     pub extension: u16,
+}
+
+// So kept keys are compared where every key is; a derived `==` would be a second place.
+impl PartialEq for Key {
+    ghost eq = { λ a b. a.pid == b.pid && (a.table_id == b.table_id && a.extension == b.extension) };
+
+    ghost laws = { Prim.search (comparing, rules) };
+
+    #[tactic(auto, using(logic::proofs::TestLaws::joined), unfolding(crate::specs::Records::same_key))]
+    fn eq(&self, other: &Key) -> bool {
+        same_key(*self, asked_of(*other))
+    }
 }
 
 // A key as a call names it: a type of its own, and wide, so that numbers out of range can be named.

@@ -7,7 +7,13 @@ use text::Amount;
 
 // How many from n on are not as they were.
 fn changed(out: &[u16], n: usize) -> usize {
-    out.iter().skip(n).filter(|u| **u != 65535).count()
+    let mut k = 0;
+    for i in n..out.len() {
+        if out[i] != 65535 {
+            k += 1;
+        }
+    }
+    k
 }
 
 // The number of units, how many others of the output changed, and the units.
